@@ -6,13 +6,13 @@ use Rattle.std.specs.Option.{option_map}
 use Rattle.cxx_model.specs.declared.facts.Fact.{Fact}
 use Rattle.cxx_model.specs.declared.types.FactId.{FactId}
 use Rattle.cxx_model.specs.declared.types.ScopeId.{ScopeId}
-use Rattle.cxx_model.specs.Facts.Declarations.{CxxFact, CxxGraph, declares_at, fact_at, graph_at}
+use Rattle.cxx_model.specs.Facts.Declarations.{CxxFact, CxxGraph, declares_at, fact_at, facts_at, graph_at}
 use Rattle.cxx_model.specs.Facts.Graph.{Graph}
 use Rattle.cxx_model.specs.Types.Trees.{CxxType}
 use Rattle.cxx_meaning.specs.Conversions.Standard.{CxxOperand}
 use Rattle.cxx_meaning.specs.Lookups.Associated.{associated}
 use Rattle.cxx_names.specs.Looked.{looked_up, seen_by}
-use Rattle.cxx_reading.specs.Givers.{giver, with_givers}
+use Rattle.cxx_reading.specs.Givers.{giver, scope_in, with_givers}
 use Rattle.cxx_reading.specs.Seen.{Numbered, fact_numbers, numbered_at}
 use Rattle.cxx_tree.specs.Held.{Held, fact_of_option, meaning}
 use Rattle.cxx_expr.specs.Calls.{bare_word}
@@ -72,21 +72,35 @@ all_below held seen numbers same known = subst (λ (g : Graph). AreNumbersBelow 
 
 -- ---- the scope that tells default arguments
 
-scope_by : (o : Option Numbered) (scope : ScopeId) → IsScopeOf o scope → scope.0 ≡ scope_of_giver o
-scope_by None scope is = elim is [ ]
-scope_by (Some one) scope is = is
+scope_by : (graph : CxxGraph) (function : ℕ) (o : Option Numbered) (scope : ScopeId) → IsScopeOf o scope → scope.0 ≡ scope_of_giver graph function o
+scope_by graph function None scope is = elim is [ ]
+scope_by graph function (Some one) scope is = is
 
-pub scope_there : (held : Held) (seen : Graph) (types : List CxxType) (said : ℕ) (scope : ScopeId) (function : ℕ) (one : Option Numbered) → seen ≡ held.graph → types ≡ held.types → one ≡ giver (graph_at types seen) said function → IsScopeOf one scope → scope.0 ≡ scope_of_giver (giver (meaning held).graph said function)
+pub scope_there : (held : Held) (seen : Graph) (types : List CxxType) (said : ℕ) (scope : ScopeId) (function : ℕ) (one : Option Numbered) → seen ≡ held.graph → types ≡ held.types → one ≡ giver (graph_at types seen) said function → IsScopeOf one scope → scope.0 ≡ scope_of_giver (meaning held).graph function (giver (meaning held).graph said function)
 unfolding meaning
 scope_there held seen types said scope function one same named is known =
-    subst (λ (ts : List CxxType). scope.0 ≡ scope_of_giver (giver (graph_at ts held.graph) said function)) named
-    (subst (λ (g : Graph). scope.0 ≡ scope_of_giver (giver (graph_at types g) said function)) same (scope_by one scope known ∙ ap scope_of_giver is))
+    subst (λ (ts : List CxxType). scope.0 ≡ scope_of_giver (graph_at ts held.graph) function (giver (graph_at ts held.graph) said function)) named
+    (subst (λ (g : Graph). scope.0 ≡ scope_of_giver (graph_at types g) function (giver (graph_at types g) said function)) same (scope_by (graph_at types seen) function one scope known ∙ ap (scope_of_giver (graph_at types seen) function) is))
 
-pub scope_none : (held : Held) (seen : Graph) (types : List CxxType) (said function : ℕ) → seen ≡ held.graph → types ≡ held.types → None ≡ giver (graph_at types seen) said function → 0 ≡ scope_of_giver (giver (meaning held).graph said function)
+pub scope_none : (held : Held) (seen : Graph) (types : List CxxType) (said function first : ℕ) → seen ≡ held.graph → types ≡ held.types → first ≡ scope_in (slice_get (meaning held).graph.facts function) → None ≡ giver (graph_at types seen) said function → first ≡ scope_of_giver (meaning held).graph function (giver (meaning held).graph said function)
 unfolding meaning
-scope_none held seen types said function same named is =
-    subst (λ (ts : List CxxType). 0 ≡ scope_of_giver (giver (graph_at ts held.graph) said function)) named
-    (subst (λ (g : Graph). 0 ≡ scope_of_giver (giver (graph_at types g) said function)) same (ap scope_of_giver is))
+scope_none held seen types said function first same named at is =
+    at
+    ∙ ap (scope_of_giver (graph_at held.types held.graph) function)
+    (subst (λ (ts : List CxxType). None ≡ giver (graph_at ts held.graph) said function) named
+    (subst (λ (g : Graph). None ≡ giver (graph_at types g) said function) same is))
+
+-- that of a declaration
+scope_by_number : (types : List CxxType) (facts : List Fact) (n : ℕ) (o : Option Fact) → slice_get facts n ≡ o → scope_in (slice_get (facts_at types facts) n) ≡ scope_in (option_map (fact_at types) o)
+scope_by_number types facts n o at = ap scope_in (fact_seen types facts n ∙ ap (option_map (fact_at types)) at)
+
+pub scope_first : (held : Held) (seen : Graph) (n : ℕ) (fact : Fact) → seen ≡ held.graph → slice_get seen.facts n ≡ Some fact → fact.scope.0 ≡ scope_in (slice_get (meaning held).graph.facts n)
+unfolding meaning
+scope_first held seen n fact same at = sym (scope_by_number held.types held.graph.facts n (Some fact) (subst (λ (g : Graph). slice_get g.facts n ≡ Some fact) same at))
+
+pub scope_missing : (held : Held) (seen : Graph) (n : ℕ) → seen ≡ held.graph → slice_get seen.facts n ≡ None → 0 ≡ scope_in (slice_get (meaning held).graph.facts n)
+unfolding meaning
+scope_missing held seen n same at = sym (scope_by_number held.types held.graph.facts n None (subst (λ (g : Graph). slice_get g.facts n ≡ None) same at))
 
 -- ---- what the types of arguments find besides
 

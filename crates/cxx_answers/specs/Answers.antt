@@ -1,5 +1,6 @@
 -- What is asked to find what an expression means, answered by the declarations so far (3.4, 5.3.3, 5.19, 13.3).
 use Rattle.std.specs.Prelude.{ℕ, zero, ◌^◌, nat_eq, nat_lt, ℤ, pos, negsuc, Bool, true, false, not, ◌&&◌, ◌||◌, if◌then◌else◌, List, [], ◌∷◌, ◌++◌, length, Option, Some, None, Result, Ok, Err}
+use Rattle.std.specs.List.{slice_get}
 use Rattle.cxx_model.specs.declared.facts.MemberKind.{MemberKind}
 use Rattle.cxx_model.specs.declared.facts.MemberKind.TheVariants as member_kind
 use Rattle.cxx_model.specs.declared.fault.FaultText.TheVariants as says
@@ -13,7 +14,6 @@ use Rattle.cxx_model.specs.declared.types.FactId.{FactId}
 use Rattle.cxx_model.specs.Facts.Declarations as facts
 use Rattle.cxx_model.specs.Facts.Declarations.{CxxGraph, CxxName, Declares, spelled}
 use Rattle.cxx_model.specs.Stops.{Answer, Stopped, Limited, ◌>>=◌, fault, not_built_at, undeclared_at}
-use Rattle.cxx_model.specs.Text.Lexemes.{nowhere}
 use Rattle.cxx_model.specs.Types.Trees.{CxxType}
 use Rattle.cxx_meaning.specs.declared.size.SizeReason.{SizeReason}
 use Rattle.cxx_meaning.specs.declared.size.SizeReason.TheVariants as reason
@@ -24,7 +24,7 @@ use Rattle.cxx_meaning.specs.Lookups.Associated.{adl, associated}
 use Rattle.cxx_meaning.specs.Lookups.Wanted.{any_name}
 use Rattle.cxx_constant.specs.Constants.{CxxFault, CxxValue, not_constant, overflow, divide_by_zero, constant}
 use Rattle.cxx_reading.specs.declared.region.Region.{Region}
-use Rattle.cxx_reading.specs.Givers.{giver, with_givers}
+use Rattle.cxx_reading.specs.Givers.{giver, scope_in, with_givers}
 use Rattle.cxx_reading.specs.Initializers.{with_call}
 use Rattle.cxx_reading.specs.Linked.{is_space_at}
 use Rattle.cxx_reading.specs.Paths.{found_in, name_in, region_of, scope_of_region, sought_in, unambiguous}
@@ -198,18 +198,20 @@ constant_here tree state = constant_by state tree (constant state.graph tree)
 
 -- ---- default arguments (8.3.6)
 
-abbrev pub fallback_by : CxxState → Option CxxGiven → Answer (CxxTree × CxxState)
-fallback_by state None = Err (not_built_at nowhere)
-fallback_by state (Some given) = Ok (given.tree, state)
+-- one that was not read yet is not there (9.2 p2)
+abbrev pub fallback_by : Place → CxxState → Option CxxGiven → Answer (CxxTree × CxxState)
+fallback_by place state None = Err (fault place says.OperandsDoNotFit)
+fallback_by place state (Some given) = Ok (given.tree, state)
 
-abbrev pub scope_of_giver : Option Numbered → ℕ
-scope_of_giver None = zero
-scope_of_giver (Some one) = one.fact.scope
+-- where nothing tells them, the first declaration does: that of a function of a class
+abbrev pub scope_of_giver : CxxGraph → ℕ → Option Numbered → ℕ
+scope_of_giver graph function None = scope_in (slice_get graph.facts function)
+scope_of_giver graph function (Some one) = one.fact.scope
 
 -- that of the parameter with an index, as a declaration gave it in the scope that tells the default arguments where the
 -- called name is looked up
 unfoldable pub fallback_here : CxxPath → ℕ → ℕ → Asks CxxState CxxTree
-fallback_here path function index state = region_of state.graph state.here.scope path >>= λ where_. fallback_by state (first_given state.graph.facts (scope_of_giver (giver state.graph (scope_of_region where_) function)) function index state.given)
+fallback_here path function index state = region_of state.graph state.here.scope path >>= λ where_. fallback_by (last_part path.parts).place state (first_given state.graph.facts (scope_of_giver state.graph function (giver state.graph (scope_of_region where_) function)) function index state.given)
 
 -- ---- all questions
 

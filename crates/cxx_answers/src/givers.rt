@@ -58,7 +58,8 @@ fn other_giver(function: FactId, number: FactId) -> Option<FactId>
 }
 
 impl Telling<'_> {
-    fn fact(&self, number: FactId) -> Option<&Fact>
+    /// A declaration, where there is one with its number.
+    pub(crate) fn fact(&self, number: FactId) -> Option<&Fact>
         ensures { option_copied result ≡ slice_get self.now.graph.now.facts number.0 }
     {
         self.graph.facts().get(number.0 as usize)

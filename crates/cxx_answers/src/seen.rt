@@ -1,6 +1,7 @@
 //! Declarations that tell default arguments in a scope (8.3.6).
 
 ghost use Rattle.std.specs.Prelude.{◌≡◌, IfOk, IfSome};
+ghost use Rattle.std.specs.List.{slice_get};
 ghost use Rattle.cxx_answers.specs.Answers as definition;
 ghost use Rattle.cxx_answers.specs.Told.{IsTelling};
 ghost use Rattle.cxx_expr.specs.Views.{AreFactsKnown, numbered};
@@ -59,14 +60,26 @@ pub(crate) fn with_givers(
     telling.with_givers(alloc, scope, numbers)
 }
 
+// The scope of a declaration; that of the unit where there is none with its number.
+#[tactic(auto, using(crate::proofs::Found::scope_first, crate::proofs::Found::scope_missing))]
+fn scope_of_fact(state: &State, number: FactId) -> ScopeId
+    ensures { result.0 ≡ givers.scope_in (slice_get (meaning state.now).graph.facts number.0) }
+{
+    let telling = telling_of(state);
+    match telling.fact(number) {
+        Some(fact) => fact.scope,
+        None => ScopeId(0),
+    }
+}
+
 /// The scope of the declaration that tells the default arguments of a function in a scope.
 #[tactic(auto, using(crate::proofs::Found::scope_there, crate::proofs::Found::scope_none))]
 pub(crate) fn scope_of_giver(state: &State, scope: ScopeId, function: FactId) -> ScopeId
-    ensures { result.0 ≡ definition.scope_of_giver (givers.giver (meaning state.now).graph scope.0 function.0) }
+    ensures { result.0 ≡ definition.scope_of_giver (meaning state.now).graph function.0 (givers.giver (meaning state.now).graph scope.0 function.0) }
 {
     let telling = telling_of(state);
     match telling.giver(scope, function) {
         Some(one) => telling.scope_of(one),
-        None => ScopeId(0),
+        None => scope_of_fact(state, function),
     }
 }

@@ -40,7 +40,7 @@ use cxx_expr::production::{ARROW, MEMBER, NAME};
 use cxx_expr::{Chosen, Questions, class_of_scope, is_function_at, node_of, static_class};
 use cxx_model::{
     ClassId, ConstantKind, Entity, FactId, Fault, FaultText, Listed, Node, Operand, OperandList,
-    Path, Place, ScopeId, Stop, Text, TreeId, TreeIdList, TypeId,
+    Path, PathPart, Place, ScopeId, Stop, Text, TreeId, TreeIdList, TypeId, Word,
 };
 use cxx_tree::State;
 use std::alloc::{AllocError, Global};
@@ -804,14 +804,54 @@ fn member_call_tree(
     given_over(state, node, operand, parts)
 }
 
+// The name behind an object alone, by which default arguments are asked for (8.3.6).
+fn name_alone(alloc: Global, node: &Node) -> Result<Path, AllocError>
+    ensures { IfOk result (λ path. path_at path ≡ definition.name_alone (names.word_in (label_at [] node.now))) }
+{
+    let mut parts = Listed::new(alloc);
+    parts.push(PathPart {
+        word: Word::from_slice(alloc, word_in(node))?,
+        place: place_in(node),
+        arguments: None,
+    })?;
+    Ok(Path {
+        global: false,
+        parts,
+    })
+}
+
+// Once the arguments are converted.
+#[tactic(auto, using(cxx_expr::proofs::Kept::later_trans, cxx_expr::proofs::NodeKept::node_later, cxx_expr::proofs::NodeKept::node_kept, crate::proofs::Chosen::chosen_later, crate::proofs::Chosen::chosen_kept, crate::proofs::Signed::types_length), unfolding(cxx_expr::specs::Calls::member_filled))]
+fn member_filled<Q: Questions>(
+    questions: &Q,
+    state: &mut State,
+    node: Node,
+    place: Place,
+    path: &Path,
+    count: usize,
+    chosen: &Chosen,
+    parts: TreeIdList,
+) -> Result<TreeId, Stop>
+    requires ready { Q.is_ready questions.now }
+    requires node { IsNodeHeld state.old node }
+    requires chosen { IsChosen state.old chosen.now }
+    requires parts { AreTreesHeld state.old parts }
+    ensures { IsAnswered tree IsTreeKnown state.old state.new result (definition.member_filled (Q.asks questions.now) (node_tree state.old node) place (path_at path.now) count (chosen_of state.old chosen.now) (trees_held state.old parts) (meaning state.old)) }
+{
+    let end = chosen.parameters.len();
+    let all = fallbacks(questions, state, path, chosen.target, count, parts, end)?;
+    member_call_tree(state, node, place, chosen, all)
+}
+
 // Once what is called is known as a tree.
-#[tactic(auto, using(cxx_expr::proofs::Kept::later_trans, cxx_expr::proofs::NodeKept::node_later, cxx_expr::proofs::NodeKept::node_kept, crate::proofs::Chosen::chosen_later, crate::proofs::Chosen::chosen_kept), unfolding(cxx_expr::specs::Calls::member_converted))]
+#[tactic(auto, using(cxx_expr::proofs::Kept::later_trans, cxx_expr::proofs::NodeKept::node_later, cxx_expr::proofs::NodeKept::node_kept, crate::proofs::Chosen::chosen_later, crate::proofs::Chosen::chosen_kept, crate::proofs::Signed::trees_length), unfolding(cxx_expr::specs::Calls::member_converted))]
 fn member_converted<Q: Questions>(
     alloc: Global,
     questions: &Q,
     state: &mut State,
     node: Node,
     place: Place,
+    path: &Path,
     callee: TreeId,
     arguments: &[TreeId],
     chosen: &Chosen,
@@ -821,7 +861,7 @@ fn member_converted<Q: Questions>(
     requires callee { callee.0 < length (trees state.old) }
     requires arguments { AreTreesHeld state.old arguments.now }
     requires chosen { IsChosen state.old chosen.now }
-    ensures { IsAnswered tree IsTreeKnown state.old state.new result (definition.member_converted (Q.asks questions.now) (node_tree state.old node) place (tree state.old callee) (trees_held state.old arguments.now) (chosen_of state.old chosen.now) (meaning state.old)) }
+    ensures { IsAnswered tree IsTreeKnown state.old state.new result (definition.member_converted (Q.asks questions.now) (node_tree state.old node) place (path_at path.now) (tree state.old callee) (trees_held state.old arguments.now) (chosen_of state.old chosen.now) (meaning state.old)) }
 {
     let before = listed_one(alloc, callee)?;
     let parts = convert_each(
@@ -833,7 +873,16 @@ fn member_converted<Q: Questions>(
         before,
         arguments,
     )?;
-    member_call_tree(state, node, place, chosen, parts)
+    member_filled(
+        questions,
+        state,
+        node,
+        place,
+        path,
+        arguments.len(),
+        chosen,
+        parts,
+    )
 }
 
 // Once the function is noted, and its object is that of its class.
@@ -855,9 +904,10 @@ fn member_meant<Q: Questions>(
     ensures { IsAnswered tree IsTreeKnown state.old state.new result (definition.member_meant (Q.asks questions.now) (node_tree state.old node) (node_tree state.old callee) (trees_held state.old arguments.now) (chosen_of state.old chosen.now) (meaning state.old)) }
 {
     let place = place_in(&callee);
+    let path = name_alone(alloc, &callee)?;
     let callee = callee_as(state, callee, chosen)?;
     member_converted(
-        alloc, questions, state, node, place, callee, arguments, chosen,
+        alloc, questions, state, node, place, &path, callee, arguments, chosen,
     )
 }
 

@@ -33,7 +33,7 @@ use Rattle.cxx_reading.specs.State.{CxxState}
 use Rattle.cxx_implicit.specs.Members.{implicit_members}
 use Rattle.cxx_declare.specs.Begun.{IsAddable, class_added, class_completed, class_known, class_reserved, ended_with, member_entity, named_within, next_class_defined, unnamed_added, unnamed_reserved}
 use Rattle.cxx_declare.specs.declared.class_definitions.MemberWords.{MemberWords}
-use Rattle.cxx_declare.specs.ClassDefinitions.{added_each, begin_class, begin_unnamed, begun_as, class_declared, class_end, class_here, class_scope, declare_member, define_again, define_by, define_new, end_class, ended_as, enter_class, enter_unnamed, injected_name, member_by, member_here, member_kind, unnamed_here}
+use Rattle.cxx_declare.specs.ClassDefinitions.{added_each, begin_class, begin_unnamed, begun_as, class_declared, class_end, class_here, class_scope, declare_member, define_again, define_by, define_new, end_class, ended_as, enter_class, enter_unnamed, injected_name, member_by, member_defaults, member_here, member_kind, unnamed_here}
 use Rattle.cxx_reading.specs.Declarators.{is_function_type}
 use Rattle.cxx_declare.specs.Classes.{IsNextClass}
 use Rattle.cxx_declare.specs.Made.{IsReady, added_defined, definable_by, made, token, word_in}
@@ -292,32 +292,32 @@ named_kind : (is_static : Bool) → IsNamedMember (member_kind is_static)
 named_kind true = tt
 named_kind false = tt
 
-entity_ready : (held : Held) (access : Access) (is_function : Bool) (words : MemberWords) (place : Place) (word : List ℕ) (of : TypeId) (scope : ScopeId) → scope.0 < scopes held.graph.facts → of.0 < length held.types → IsReady held (member_fact access (member_entity is_function words of) scope place (name.Spelled word))
-entity_ready held access true words place word of scope there below = record { follows = may_follow held.graph (member_fact access (member_entity true words of) scope place (name.Spelled word)) there tt; below = record { name = tt; what = below }; plain = record { name = tt; what = named_kind words.is_static } }
-entity_ready held access false words place word of scope there below = record { follows = may_follow held.graph (member_fact access (member_entity false words of) scope place (name.Spelled word)) there tt; below = record { name = tt; what = below }; plain = record { name = tt; what = named_kind words.is_static } }
+entity_ready : (held : Held) (access : Access) (is_function : Bool) (words : MemberWords) (place : Place) (word : List ℕ) (of : TypeId) (defaults : ℕ) (scope : ScopeId) → scope.0 < scopes held.graph.facts → of.0 < length held.types → IsReady held (member_fact access (member_entity is_function words of defaults) scope place (name.Spelled word))
+entity_ready held access true words place word of defaults scope there below = record { follows = may_follow held.graph (member_fact access (member_entity true words of defaults) scope place (name.Spelled word)) there tt; below = record { name = tt; what = below }; plain = record { name = tt; what = named_kind words.is_static } }
+entity_ready held access false words place word of defaults scope there below = record { follows = may_follow held.graph (member_fact access (member_entity false words of defaults) scope place (name.Spelled word)) there tt; below = record { name = tt; what = below }; plain = record { name = tt; what = named_kind words.is_static } }
 
-pub member_ready : (held : Held) (access : Access) (is_function : Bool) (words : MemberWords) (place : Place) (word : List ℕ) (of : TypeId) (what : Entity) (scope : ScopeId) (n : Name) → scope.0 < scopes held.graph.facts → of.0 < length held.types → what ≡ member_entity is_function words of → n ≡ name.Spelled word → IsReady held (member_fact access what scope place n)
-member_ready held access is_function words place word of what scope n there below is named =
+pub member_ready : (held : Held) (access : Access) (is_function : Bool) (words : MemberWords) (place : Place) (word : List ℕ) (of : TypeId) (defaults : ℕ) (what : Entity) (scope : ScopeId) (n : Name) → scope.0 < scopes held.graph.facts → of.0 < length held.types → what ≡ member_entity is_function words of defaults → n ≡ name.Spelled word → IsReady held (member_fact access what scope place n)
+member_ready held access is_function words place word of defaults what scope n there below is named =
     subst (λ (w : Entity). IsReady held (member_fact access w scope place n)) (sym is)
-    (subst (λ (m : Name). IsReady held (member_fact access (member_entity is_function words of) scope place m)) (sym named) (entity_ready held access is_function words place word of scope there below))
+    (subst (λ (m : Name). IsReady held (member_fact access (member_entity is_function words of defaults) scope place m)) (sym named) (entity_ready held access is_function words place word of defaults scope there below))
 
-entity_is : (types : List CxxType) (is_function : Bool) (words : MemberWords) (of : TypeId) → declares_at types (member_entity is_function words of) ≡ member_by is_function words (type_at types of.0)
-entity_is types true words of = refl
-entity_is types false words of = refl
+entity_is : (types : List CxxType) (is_function : Bool) (words : MemberWords) (of : TypeId) (defaults : ℕ) → declares_at types (member_entity is_function words of defaults) ≡ member_by is_function words (type_at types of.0) defaults
+entity_is types true words of defaults = refl
+entity_is types false words of defaults = refl
 
-pub member_is : (held : Held) (kind : TokenKind) (words : MemberWords) (place : Place) (word : List ℕ) (of : TypeId) (what : Entity) (scope : ScopeId) (n : Name) → what ≡ member_entity (is_function_type (type_at held.types of.0)) words of → scope ≡ held.scope → n ≡ name.Spelled word
-    → fact_at held.types (member_fact words.access what scope place n) ≡ member_here (meaning held) words (token kind place word) (type_at held.types of.0)
+pub member_is : (held : Held) (kind : TokenKind) (words : MemberWords) (place : Place) (word : List ℕ) (of : TypeId) (defaults : ℕ) (what : Entity) (scope : ScopeId) (n : Name) → what ≡ member_entity (is_function_type (type_at held.types of.0)) words of defaults → scope ≡ held.scope → n ≡ name.Spelled word
+    → fact_at held.types (member_fact words.access what scope place n) ≡ member_here (meaning held) words (token kind place word) (type_at held.types of.0) defaults
 unfolding meaning
-member_is held kind words place word of what scope n is here named =
+member_is held kind words place word of defaults what scope n is here named =
     ap (λ (w : Entity). fact_at held.types (member_fact words.access w scope place n)) is
-    ∙ ap (λ (m : Name). fact_at held.types (member_fact words.access (member_entity (is_function_type (type_at held.types of.0)) words of) scope place m)) named
-    ∙ ap (λ (s : ScopeId). fact_at held.types (member_fact words.access (member_entity (is_function_type (type_at held.types of.0)) words of) s place (name.Spelled word))) here
-    ∙ ap (λ (d : Declares). record { place = place; scope = held.scope.0; name = spelled word; access = words.access; what = d }) (entity_is held.types (is_function_type (type_at held.types of.0)) words of)
+    ∙ ap (λ (m : Name). fact_at held.types (member_fact words.access (member_entity (is_function_type (type_at held.types of.0)) words of defaults) scope place m)) named
+    ∙ ap (λ (s : ScopeId). fact_at held.types (member_fact words.access (member_entity (is_function_type (type_at held.types of.0)) words of defaults) s place (name.Spelled word))) here
+    ∙ ap (λ (d : Declares). record { place = place; scope = held.scope.0; name = spelled word; access = words.access; what = d }) (entity_is held.types (is_function_type (type_at held.types of.0)) words of defaults)
 
-pub member_declared : (old new : Held) (kind : TokenKind) (words : MemberWords) (place : Place) (word : List ℕ) (of : CxxType) (fact : Fact) (r : Result FactId Stop) → fact_at old.types fact ≡ member_here (meaning old) words (token kind place word) of → fact.name ≡ name.Spelled word
-    → IsAnswered fact_number IsFactKnown old new r (declare (fact_at old.types fact) (word_in fact.name) (meaning old)) → IsAnswered fact_number IsFactKnown old new r (declare_member words (token kind place word) of (meaning old))
+pub member_declared : (old new : Held) (kind : TokenKind) (words : MemberWords) (list : Option ℕ) (place : Place) (word : List ℕ) (of : CxxType) (fact : Fact) (r : Result FactId Stop) → fact_at old.types fact ≡ member_here (meaning old) words (token kind place word) of (member_defaults (meaning old) list of) → fact.name ≡ name.Spelled word
+    → IsAnswered fact_number IsFactKnown old new r (declare (fact_at old.types fact) (word_in fact.name) (meaning old)) → IsAnswered fact_number IsFactKnown old new r (declare_member words list (token kind place word) of (meaning old))
 unfolding declare_member
-member_declared old new kind words place word of fact r is named answered = declared_as old new fact (member_here (meaning old) words (token kind place word) of) word r is named answered
+member_declared old new kind words list place word of fact r is named answered = declared_as old new fact (member_here (meaning old) words (token kind place word) of (member_defaults (meaning old) list of)) word r is named answered
 
 -- ---- it ends
 

@@ -63,6 +63,6 @@ ended_with all n place state = added_each all state >>= λ implied. class_comple
 -- ---- its members
 
 -- 9.2, 9.3: a function, where it is one, or else a data member
-abbrev pub member_entity : Bool → MemberWords → TypeId → Entity
-member_entity true words of = entity.Function of (member_kind words.is_static) (flags_of words) 0 None
-member_entity false words of = entity.Object of (member_kind words.is_static) words.is_mutable None None
+abbrev pub member_entity : Bool → MemberWords → TypeId → ℕ → Entity
+member_entity true words of defaults = entity.Function of (member_kind words.is_static) (flags_of words) defaults None
+member_entity false words of defaults = entity.Object of (member_kind words.is_static) words.is_mutable None None

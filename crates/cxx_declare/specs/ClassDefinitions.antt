@@ -12,6 +12,7 @@ use Rattle.cxx_model.specs.Stops.{◌>>=◌}
 use Rattle.cxx_model.specs.Text.Lexemes.{Lexeme}
 use Rattle.cxx_model.specs.Types.Trees.{CxxType}
 use Rattle.cxx_declare.specs.declared.class_definitions.MemberWords.{MemberWords}
+use Rattle.cxx_declare.specs.Functions.{defaults_by, offered_by}
 use Rattle.cxx_implicit.specs.Members.{implicit_members}
 use Rattle.cxx_reading.specs.Classes.{ClassNamed, class_count, class_fact, class_id, first_class, reserved}
 use Rattle.cxx_reading.specs.Declarators.{is_function_type}
@@ -106,19 +107,24 @@ abbrev pub flags_of : MemberWords → FunctionFlags
 flags_of words = record no_flags { is_virtual = words.is_virtual && not words.is_static; is_pure = words.is_pure && not words.is_static }
 
 -- 9.2, 9.3: a function, where it is one, or else a data member
-abbrev pub member_by : Bool → MemberWords → CxxType → Declares
-member_by true words of = facts.function of (member_kind words.is_static) (flags_of words) zero None
-member_by false words of = facts.object of (member_kind words.is_static) words.is_mutable None None
+abbrev pub member_by : Bool → MemberWords → CxxType → ℕ → Declares
+member_by true words of defaults = facts.function of (member_kind words.is_static) (flags_of words) defaults None
+member_by false words of defaults = facts.object of (member_kind words.is_static) words.is_mutable None None
 
-abbrev pub member_what : MemberWords → CxxType → Declares
-member_what words of = member_by (is_function_type of) words of
+abbrev pub member_what : MemberWords → CxxType → ℕ → Declares
+member_what words of defaults = member_by (is_function_type of) words of defaults
+
+-- 8.3.6: how many of the last parameters have a default argument, of those that stand in the list of a declarator
+abbrev pub member_defaults : CxxState → Option ℕ → CxxType → ℕ
+member_defaults state list of = defaults_by state of None (offered_by list state.offered)
 
 -- 9.2, 9.4: a member, with what the words before it say
-abbrev pub member_here : CxxState → MemberWords → Lexeme → CxxType → CxxFact
-member_here state words name of = record { place = name.place; scope = state.here.scope; name = spelled name.spelling; access = words.access; what = member_what words of }
+abbrev pub member_here : CxxState → MemberWords → Lexeme → CxxType → ℕ → CxxFact
+member_here state words name of defaults = record { place = name.place; scope = state.here.scope; name = spelled name.spelling; access = words.access; what = member_what words of defaults }
 
-unfoldable pub declare_member : MemberWords → Lexeme → CxxType → Asks CxxState ℕ
-declare_member words name of state = declare (member_here state words name of) name.spelling state
+-- whose declarator has a list of parameters with that scope, or none of its own
+unfoldable pub declare_member : MemberWords → Option ℕ → Lexeme → CxxType → Asks CxxState ℕ
+declare_member words list name of state = declare (member_here state words name of (member_defaults state list of)) name.spelling state
 
 -- ---- it ends
 

@@ -15,17 +15,18 @@ ghost use Rattle.cxx_declare.specs.ClassDefinitions as definition;
 ghost use Rattle.cxx_declare.specs.Classes.{IsNextClass};
 ghost use Rattle.cxx_declare.specs.Made.{IsReady, token, word_in};
 ghost use Rattle.cxx_reading.specs.Declarators.{is_function_type};
-ghost use Rattle.cxx_tree.specs.Answered.{AnyKnown, IsAnswered, IsClassKnown, IsFactKnown, class_number, fact_number, itself};
+ghost use Rattle.cxx_tree.specs.Answered.{AnyKnown, IsAnswered, IsClassKnown, IsFactKnown, class_number, fact_number, itself, scope_of_option};
 ghost use Rattle.cxx_tree.specs.Held.{meaning, type_of};
 
 use crate::classes::{class_in, next_class};
 use crate::conflict::{definable, free};
 use crate::facts::{declare, fact_in, word_fact};
+use crate::functions::{defaults_by, offered_by};
 use crate::objects::add_defined;
 use crate::parts::spelled;
 use cxx_model::{
-    Access, ClassId, Entity, Fact, FactId, FunctionFlags, MemberKind, Name, Place, ScopeId, Stop,
-    TypeId, TypeNode,
+    Access, ClassId, Entity, Fact, FactId, FunctionFlags, MemberKind, Name, OutOfMemory, Place,
+    ScopeId, Stop, TypeId, TypeNode,
 };
 use cxx_tree::State;
 use cxx_types::TypeTable;
@@ -304,15 +305,15 @@ fn is_function(types: &TypeTable, of: TypeId) -> bool
 }
 
 // A function, where it is one, or else a data member (9.2, 9.3).
-fn member_entity(is_function: bool, words: MemberWords, of: TypeId) -> Entity
-    ensures { result ≡ member_entity is_function words of }
+fn member_entity(is_function: bool, words: MemberWords, of: TypeId, defaults: u32) -> Entity
+    ensures { result ≡ member_entity is_function words of defaults }
 {
     if is_function {
         Entity::Function {
             of,
             member: member_kind(words.is_static),
             flags: flags_of(words),
-            defaults: 0,
+            defaults,
             first: None,
         }
     } else {
@@ -327,27 +328,37 @@ fn member_entity(is_function: bool, words: MemberWords, of: TypeId) -> Entity
 }
 
 // What a member with a type is.
-fn member_what(types: &TypeTable, words: MemberWords, of: TypeId) -> Entity
+fn member_what(types: &TypeTable, words: MemberWords, of: TypeId, defaults: u32) -> Entity
     requires { of.0 < length types.now }
-    ensures { result ≡ member_entity (is_function_type (type_at types.now of.0)) words of }
+    ensures { result ≡ member_entity (is_function_type (type_at types.now of.0)) words of defaults }
 {
-    member_entity(is_function(types, of), words, of)
+    member_entity(is_function(types, of), words, of, defaults)
 }
 
-// The declaration of a member (9.2, 9.4).
-fn member_fact(
+// How many of the last parameters have a default argument, of those that stand in the list of a declarator (8.3.6).
+fn member_defaults(state: &State, list: Option<ScopeId>, of: TypeId) -> Result<u32, OutOfMemory>
+    requires { of.0 < length (state.now).types }
+    ensures { IfOk result (λ count. count ≡ definition.member_defaults (meaning state.now) (scope_of_option list) (type_of state.now of)) }
+{
+    let offers = offered_by(state, list)?;
+    defaults_by(state, of, None, offers.as_slice())
+}
+
+// The declaration of a member (9.2, 9.4), where so many of its last parameters have a default argument.
+fn member_with(
     state: &State,
     words: MemberWords,
     place: Place,
     word: &[u8],
     of: TypeId,
+    defaults: u32,
 ) -> Result<Fact, AllocError>
     requires { of.0 < length (state.now).types }
-    ensures is { (kind : TokenKind) → IfOk result (λ fact. fact_at (state.now).types fact ≡ definition.member_here (meaning state.now) words (token kind place word.now) (type_of state.now of)) }
+    ensures is { (kind : TokenKind) → IfOk result (λ fact. fact_at (state.now).types fact ≡ definition.member_here (meaning state.now) words (token kind place word.now) (type_of state.now of) defaults) }
     ensures ready { IfOk result (IsReady state.now) }
     ensures named { IfOk result (λ fact. fact.name ≡ Spelled word.now) }
 {
-    let what = member_what(state.types(), words, of);
+    let what = member_what(state.types(), words, of, defaults);
     let name = spelled(state.alloc(), word)?;
     Ok(Fact {
         place,
@@ -358,18 +369,38 @@ fn member_fact(
     })
 }
 
-/// A member is declared (9.2), with what is said of it besides its name and its type.
+// The same, given the scope of the list of parameters of its declarator.
+fn member_fact(
+    state: &State,
+    words: MemberWords,
+    list: Option<ScopeId>,
+    place: Place,
+    word: &[u8],
+    of: TypeId,
+) -> Result<Fact, OutOfMemory>
+    requires { of.0 < length (state.now).types }
+    ensures is { (kind : TokenKind) → IfOk result (λ fact. fact_at (state.now).types fact ≡ definition.member_here (meaning state.now) words (token kind place word.now) (type_of state.now of) (definition.member_defaults (meaning state.now) (scope_of_option list) (type_of state.now of))) }
+    ensures ready { IfOk result (IsReady state.now) }
+    ensures named { IfOk result (λ fact. fact.name ≡ Spelled word.now) }
+{
+    let defaults = member_defaults(state, list, of)?;
+    Ok(member_with(state, words, place, word, of, defaults)?)
+}
+
+/// A member is declared (9.2), with what is said of it besides its name and its type, and with the scope of the list of
+/// parameters of its declarator, where that has one of its own (8.3.6).
 pub fn declare_member(
     state: &mut State,
     words: MemberWords,
+    list: Option<ScopeId>,
     place: Place,
     word: &[u8],
     of: TypeId,
 ) -> Result<FactId, Stop>
     requires { of.0 < length (state.old).types }
-    ensures { (kind : TokenKind) → IsAnswered fact_number IsFactKnown state.old state.new result (definition.declare_member words (token kind place word.now) (type_of state.old of) (meaning state.old)) }
+    ensures { (kind : TokenKind) → IsAnswered fact_number IsFactKnown state.old state.new result (definition.declare_member words (scope_of_option list) (token kind place word.now) (type_of state.old of) (meaning state.old)) }
 {
-    match member_fact(state, words, place, word, of) {
+    match member_fact(state, words, list, place, word, of) {
         Ok(fact) => declare(state, fact),
         Err(_) => Err(Stop::OutOfMemory),
     }

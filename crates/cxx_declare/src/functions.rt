@@ -61,8 +61,8 @@ fn offered_of(alloc: Global, list: Option<ScopeId>, all: &[Offer]) -> Result<Off
     }
 }
 
-// The default arguments that were read in the list of a declarator, where it has one.
-fn offered_by(state: &State, list: Option<ScopeId>) -> Result<OfferList, AllocError>
+/// The default arguments that were read in the list of a declarator, where it has one.
+pub(crate) fn offered_by(state: &State, list: Option<ScopeId>) -> Result<OfferList, AllocError>
     ensures is { IfOk result (λ found. offers_at (trees state.now) found ≡ functions.offered_by (scope_of_option list) (meaning state.now).offered) }
     ensures below { IfOk result (λ found. AreOffersBelow (length (trees state.now)) found) }
 {
@@ -175,8 +175,8 @@ fn parameter_count(types: &TypeTable, of: TypeId) -> usize
     }
 }
 
-// How many of the last parameters have a default argument (8.3.6).
-fn defaults_by(
+/// How many of the last parameters have a default argument (8.3.6).
+pub(crate) fn defaults_by(
     state: &State,
     of: TypeId,
     first: Option<FactId>,

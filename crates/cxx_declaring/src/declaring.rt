@@ -8,7 +8,9 @@ ghost use Rattle.cxx_cursor.specs.Asking.{AnyKnown, IsAsked, IsEnumeration, IsTy
 ghost use Rattle.cxx_cursor.specs.Views.{name_of_option};
 ghost use Rattle.cxx_tree.specs.Held.{meaning, type_of};
 
-use cxx_answers::{Answering, begin_default, constant_here, end_default};
+use cxx_answers::{
+    Answering, begin_default, constant_here, end_default, is_default_later, offer_default,
+};
 use cxx_cursor::{Cursor, NameToken, Spelled};
 use cxx_declare as declare;
 use cxx_elaborate::whole;
@@ -209,6 +211,16 @@ impl Asking for Declaring {
     #[tactic(auto, unfolding(cxx_language::specs::Answers::asking))]
     fn whole(&self, state: &mut State, node: Node, _room: u32) -> Result<TreeId, Stop> {
         whole(&Answering, state, node)
+    }
+
+    #[tactic(auto, using(crate::proofs::Answering::asked), unfolding(cxx_language::specs::Answers::asking))]
+    fn is_later(&self, state: &mut State) -> Result<bool, Stop> {
+        is_default_later(state)
+    }
+
+    #[tactic(auto, using(crate::proofs::Answering::asked), unfolding(cxx_language::specs::Answers::asking))]
+    fn passed(&self, state: &mut State, index: usize, number: TreeId) -> Result<(), Stop> {
+        offer_default(state, index, number)
     }
 
     #[tactic(auto, using(crate::proofs::Answering::asked), unfolding(cxx_language::specs::Answers::asking))]

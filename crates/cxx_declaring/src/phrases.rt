@@ -10,6 +10,7 @@ ghost use Rattle.cxx_cursor.specs.Reading.{IsRead};
 ghost use Rattle.cxx_tree.specs.Held.{meaning, tree};
 
 use crate::declaring::Declaring;
+use cxx_answers::{begin_later, end_later};
 use cxx_body::{Phrasing, read_function_body};
 use cxx_cursor::{Cursor, NameToken, Spelled, is_punct};
 use cxx_declare as declare;
@@ -173,11 +174,12 @@ impl Defines for Declaring {
         &self,
         state: &mut State,
         words: MemberWords,
+        list: Option<ScopeId>,
         name: &NameToken,
         of: TypeId,
     ) -> Result<FactId, Stop> {
         let word = name.spelling.as_slice();
-        declare::declare_member(state, words, name.place, word, of)
+        declare::declare_member(state, words, list, name.place, word, of)
     }
 
     #[tactic(auto, using(crate::proofs::Answering::asked, cxx_cursor::proofs::Kept::later_refl))]
@@ -187,5 +189,32 @@ impl Defines for Declaring {
             return Err(Stop::OutOfMemory);
         }
         declare::end_class(state, class, place)
+    }
+
+    #[tactic(auto, using(crate::proofs::Answering::asked))]
+    fn begin_later(&self, state: &mut State) -> Result<(), Stop> {
+        begin_later(state)
+    }
+
+    fn default_value(
+        &self,
+        state: &mut State,
+        cursor: &mut Cursor<'_>,
+        room: u32,
+    ) -> Result<TreeId, Stop> {
+        phrase(self, state, cursor, Level::Assignment, room)
+    }
+
+    #[tactic(auto, using(crate::proofs::Answering::asked))]
+    fn end_later(
+        &self,
+        state: &mut State,
+        equals: Place,
+        declaration: Option<FactId>,
+        index: u32,
+        of: TypeId,
+        number: TreeId,
+    ) -> Result<(), Stop> {
+        end_later(state.alloc(), state, equals, declaration, index, of, number)
     }
 }

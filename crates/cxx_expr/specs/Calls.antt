@@ -19,7 +19,7 @@ use Rattle.cxx_reading.specs.Plain.{target_or}
 use Rattle.cxx_reading.specs.Reads.{Asks}
 use Rattle.cxx_reading.specs.Seen.{Numbered}
 use Rattle.cxx_reading.specs.State.{CxxState}
-use Rattle.cxx_reading.specs.Trees.{CxxPath, CxxTree, Label, children_of, is_plain_path, tree_of}
+use Rattle.cxx_reading.specs.Trees.{CxxPath, CxxPathPart, CxxTree, Label, children_of, is_plain_path, tree_of}
 use Rattle.cxx_this.specs.This.{class_at}
 use Rattle.cxx_expr.specs.declared.production.TheConstants as production
 use Rattle.cxx_expr.specs.Asking.{◌>>=◌, fault_at, give}
@@ -148,13 +148,23 @@ callee_as callee chosen state = callee_meant callee chosen.target (means_object 
 abbrev pub member_call_tree : CxxTree → Place → CxxChosen → List CxxTree → CxxTree
 member_call_tree tree place chosen parts = tree_of (record tree.label { place = place; operand = Some (result_operand chosen.result); target = Some chosen.target; call = Some chosen.number }) parts
 
-unfoldable pub member_converted : Questions → CxxTree → Place → CxxTree → List CxxTree → CxxChosen → Asks CxxState CxxTree
-member_converted q tree place callee arguments chosen = do
+-- 8.3.6: the name behind an object alone, by which the default arguments are asked for
+abbrev pub name_alone : CxxPathPart → CxxPath
+name_alone part = record { global = false; parts = record part { arguments = None } ∷ [] }
+
+-- behind so many arguments stand the default arguments of the other parameters
+unfoldable pub member_filled : Questions → CxxTree → Place → CxxPath → ℕ → CxxChosen → List CxxTree → Asks CxxState CxxTree
+member_filled q tree place path count chosen parts = do
+  all ← fallbacks q path chosen.target count parts (length chosen.parameters - count)
+  give (member_call_tree tree place chosen all)
+
+unfoldable pub member_converted : Questions → CxxTree → Place → CxxPath → CxxTree → List CxxTree → CxxChosen → Asks CxxState CxxTree
+member_converted q tree place path callee arguments chosen = do
   parts ← convert_each q place chosen.parameters (callee ∷ []) arguments
-  give (member_call_tree tree place chosen parts)
+  member_filled q tree place path (length arguments) chosen parts
 
 abbrev pub member_meant : Questions → CxxTree → CxxTree → List CxxTree → CxxChosen → Asks CxxState CxxTree
-member_meant q tree callee arguments chosen state = member_converted q tree (word_in callee.label).place (callee_as callee chosen state) arguments chosen state
+member_meant q tree callee arguments chosen state = member_converted q tree (word_in callee.label).place (name_alone (word_in callee.label)) (callee_as callee chosen state) arguments chosen state
 
 -- the class that declares a function, where it is not that of the object
 abbrev pub other_class : ℕ → Option ClassId → Option CxxType
@@ -207,8 +217,7 @@ based_by q callee of (Some base) = based_over q callee of base (only (children_o
 unfoldable pub based : Questions → CxxTree → CxxType → ℕ → Asks CxxState CxxTree
 based q callee of target state = based_by q callee of (base_declaring state.graph of target) state
 
--- what the call is once it is known which function it means, given the type of the object; default arguments of a class are
--- not read yet
+-- what the call is once it is known which function it means, given the type of the object
 unfoldable pub member_chosen : Questions → CxxTree → CxxTree → CxxType → List CxxTree → CxxChosen → Asks CxxState CxxTree
 member_chosen q tree callee of arguments chosen = do
   noted ← q.bound (word_in callee.label).place chosen.target

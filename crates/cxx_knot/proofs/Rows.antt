@@ -16,7 +16,7 @@ use Rattle.cxx_model.specs.Text.Lexemes.{first_place, lexemes}
 use Rattle.cxx_model.specs.Text.Spelling.{spelling_of, keywords, alternatives, operators, digraphs, word_kind, number_kind, operator, literal, hash, slash, percent, literal_type, literal_value}
 use Rattle.cxx_model.specs.Text.Tokens.{Unread, tokens_of, tokens_from, front, longest_within}
 use Rattle.cxx_model.specs.Types.Trees.{CxxType, fundamental}
-use Rattle.cxx_knot.specs.Readers.{Asking, here, valued, bound_value, bound_at, value_at, enumerator_at, enumerator_step, enumerators_at, fallback_at, both}
+use Rattle.cxx_knot.specs.Readers.{Asking, here, valued, bound_value, bound_at, value_at, enumerator_at, enumerator_step, enumerators_at, fallback_now, fallback_at, both}
 use Rattle.cxx_phrases.specs.declared.level.Level.{Level}
 use Rattle.cxx_phrases.specs.declared.level.Level.TheVariants as level
 use Rattle.cxx_phrases.specs.Initializers.{Initializer, expression_at}
@@ -131,6 +131,8 @@ user room = record {
   kinds = kinds;
   whole = handed;
   defaults = record {
+    is_later = λ state. Ok (false, state);
+    passed = λ index tree state. Ok (tt, state);
     begun = λ equals state. Ok (false, state);
     ended = λ equals was index of tree state. Ok (tree, state);
   };
@@ -152,7 +154,7 @@ abbrev ahead_of : List ℕ → List Token → Ahead
 ahead_of bytes tokens = record { last = first_place; tokens = lexemes bytes tokens }
 
 expression_row : Level → ℕ → List ℕ → Result (List Token) Unread → Row
-unfolding spelling_of keywords alternatives operators digraphs word_kind number_kind operator literal hash slash percent literal_type literal_value tokens_of tokens_from front longest_within is_of_level selects_member is_assignment is_prefix is_step selected_name selected_step operator_ahead is_literal is_cast_word is_this base_of_kind begins_expression argument_ended argument_step arguments_over some_arguments arguments_behind arguments_at opened_step opened_over opened_passed closed_step closed_passed name_closed name_opened called_name cast_passed begins_cast literal_part this_part name_at called_at named_call value_name_at functional_cast functional_at type_name_at named_at word_at cast_opened cast_closed cast_word_at parenthesis_at primary_at call_step subscript_step step_step postfix_step postfixes_at cast_at parenthesis_part cast_or_parenthesis called_part called_or_not bracket_at prefix_at size_at primary_part operand_at sized_operand sized_type sized_at no_member member_operand operation operation_step operations_at operations_part binary_at conditional_part conditional_by conditional_at assignment_part assignment_by assignment_behind assignment_at comma_part comma_step commas_at whole_at clause_comma clause_ended clause_step some_clauses clauses_behind clauses_at braces_at clause_at copy_at aggregate_at equals_at list_behind direct_at initializer_at type_declared type_id_fits type_id_at type_passed_at repeat is_punct is_keyword is_name is_end is_number passed_from no_part_there path_taken kind_of_name punct_taken no_declarator declared_type refused_in storage_step inline_step const_step volatile_step word_step type_name_step named_step elaborated_step enumeration_body defined_step list_step named_list_step key_step enumeration_step class_named_step class_behind class_name_step class_key_step class_step other_step keyword_step specifier_step typed specifiers_from bracket_step brackets_passed key_shape name_shape keyword_shape run_step run_passed begins_type is_abstract_list prefix_step prefix_passed list_shape suffix_step suffixes_by declarator_passed default_step default_passed piece_step parameters_shape no_expression cv_step cv_at array_suffix exceptions_at function_suffix bracket_suffix suffix_at suffixes_at qualified_part name_part grouped_part bracket_part star_part ampersand_part declarator_at pointed_at referred_at grouped_at valued bound_value bound_at parameter_fits default_at parameter_at list_ended comma_passed parameter_ended parameter_step parameters_over some_parameters list_at parameters_at no_value value_at enumerator_at enumerator_ended enumerator_step enumerators_at fallback_at both
+unfolding spelling_of keywords alternatives operators digraphs word_kind number_kind operator literal hash slash percent literal_type literal_value tokens_of tokens_from front longest_within is_of_level selects_member is_assignment is_prefix is_step selected_name selected_step operator_ahead is_literal is_cast_word is_this base_of_kind begins_expression argument_ended argument_step arguments_over some_arguments arguments_behind arguments_at opened_step opened_over opened_passed closed_step closed_passed name_closed name_opened called_name cast_passed begins_cast literal_part this_part name_at called_at named_call value_name_at functional_cast functional_at type_name_at named_at word_at cast_opened cast_closed cast_word_at parenthesis_at primary_at call_step subscript_step step_step postfix_step postfixes_at cast_at parenthesis_part cast_or_parenthesis called_part called_or_not bracket_at prefix_at size_at primary_part operand_at sized_operand sized_type sized_at no_member member_operand operation operation_step operations_at operations_part binary_at conditional_part conditional_by conditional_at assignment_part assignment_by assignment_behind assignment_at comma_part comma_step commas_at whole_at clause_comma clause_ended clause_step some_clauses clauses_behind clauses_at braces_at clause_at copy_at aggregate_at equals_at list_behind direct_at initializer_at type_declared type_id_fits type_id_at type_passed_at repeat is_punct is_keyword is_name is_end is_number passed_from no_part_there path_taken kind_of_name punct_taken no_declarator declared_type refused_in storage_step inline_step const_step volatile_step word_step type_name_step named_step elaborated_step enumeration_body defined_step list_step named_list_step key_step enumeration_step class_named_step class_behind class_name_step class_key_step class_step other_step keyword_step specifier_step typed specifiers_from bracket_step brackets_passed key_shape name_shape keyword_shape run_step run_passed begins_type is_abstract_list prefix_step prefix_passed list_shape suffix_step suffixes_by declarator_passed default_step default_passed piece_step parameters_shape no_expression cv_step cv_at array_suffix exceptions_at function_suffix bracket_suffix suffix_at suffixes_at qualified_part name_part grouped_part bracket_part star_part ampersand_part declarator_at pointed_at referred_at grouped_at valued bound_value bound_at parameter_fits default_at parameter_at list_ended comma_passed parameter_ended parameter_step parameters_over some_parameters list_at parameters_at no_value value_at enumerator_at enumerator_ended enumerator_step enumerators_at fallback_now fallback_at both
 expression_row level room bytes (Ok tokens) = row_by shown_tree (expression_at (here (user room) (both user room) room) (both user room).phrases level [] (ahead_of bytes tokens))
 expression_row level room bytes (Err why) = NoTokens
 
@@ -170,7 +172,7 @@ place_by (Ok one) = one.value.label.place.column
 place_by (Err why) = 0
 
 order_row : List ℕ → Result (List Token) Unread → List ℕ
-unfolding spelling_of keywords alternatives operators digraphs word_kind number_kind operator literal hash slash percent literal_type literal_value tokens_of tokens_from front longest_within is_of_level selects_member is_assignment is_prefix is_step selected_name selected_step operator_ahead is_literal is_cast_word is_this base_of_kind begins_expression argument_ended argument_step arguments_over some_arguments arguments_behind arguments_at opened_step opened_over opened_passed closed_step closed_passed name_closed name_opened called_name cast_passed begins_cast literal_part this_part name_at called_at named_call value_name_at functional_cast functional_at type_name_at named_at word_at cast_opened cast_closed cast_word_at parenthesis_at primary_at call_step subscript_step step_step postfix_step postfixes_at cast_at parenthesis_part cast_or_parenthesis called_part called_or_not bracket_at prefix_at size_at primary_part operand_at sized_operand sized_type sized_at no_member member_operand operation operation_step operations_at operations_part binary_at conditional_part conditional_by conditional_at assignment_part assignment_by assignment_behind assignment_at comma_part comma_step commas_at whole_at clause_comma clause_ended clause_step some_clauses clauses_behind clauses_at braces_at clause_at copy_at aggregate_at equals_at list_behind direct_at initializer_at type_declared type_id_fits type_id_at type_passed_at repeat is_punct is_keyword is_name is_end is_number passed_from no_part_there path_taken kind_of_name punct_taken no_declarator declared_type refused_in storage_step inline_step const_step volatile_step word_step type_name_step named_step elaborated_step enumeration_body defined_step list_step named_list_step key_step enumeration_step class_named_step class_behind class_name_step class_key_step class_step other_step keyword_step specifier_step typed specifiers_from bracket_step brackets_passed key_shape name_shape keyword_shape run_step run_passed begins_type is_abstract_list prefix_step prefix_passed list_shape suffix_step suffixes_by declarator_passed default_step default_passed piece_step parameters_shape no_expression cv_step cv_at array_suffix exceptions_at function_suffix bracket_suffix suffix_at suffixes_at qualified_part name_part grouped_part bracket_part star_part ampersand_part declarator_at pointed_at referred_at grouped_at valued bound_value bound_at parameter_fits default_at parameter_at list_ended comma_passed parameter_ended parameter_step parameters_over some_parameters list_at parameters_at no_value value_at enumerator_at enumerator_ended enumerator_step enumerators_at fallback_at both
+unfolding spelling_of keywords alternatives operators digraphs word_kind number_kind operator literal hash slash percent literal_type literal_value tokens_of tokens_from front longest_within is_of_level selects_member is_assignment is_prefix is_step selected_name selected_step operator_ahead is_literal is_cast_word is_this base_of_kind begins_expression argument_ended argument_step arguments_over some_arguments arguments_behind arguments_at opened_step opened_over opened_passed closed_step closed_passed name_closed name_opened called_name cast_passed begins_cast literal_part this_part name_at called_at named_call value_name_at functional_cast functional_at type_name_at named_at word_at cast_opened cast_closed cast_word_at parenthesis_at primary_at call_step subscript_step step_step postfix_step postfixes_at cast_at parenthesis_part cast_or_parenthesis called_part called_or_not bracket_at prefix_at size_at primary_part operand_at sized_operand sized_type sized_at no_member member_operand operation operation_step operations_at operations_part binary_at conditional_part conditional_by conditional_at assignment_part assignment_by assignment_behind assignment_at comma_part comma_step commas_at whole_at clause_comma clause_ended clause_step some_clauses clauses_behind clauses_at braces_at clause_at copy_at aggregate_at equals_at list_behind direct_at initializer_at type_declared type_id_fits type_id_at type_passed_at repeat is_punct is_keyword is_name is_end is_number passed_from no_part_there path_taken kind_of_name punct_taken no_declarator declared_type refused_in storage_step inline_step const_step volatile_step word_step type_name_step named_step elaborated_step enumeration_body defined_step list_step named_list_step key_step enumeration_step class_named_step class_behind class_name_step class_key_step class_step other_step keyword_step specifier_step typed specifiers_from bracket_step brackets_passed key_shape name_shape keyword_shape run_step run_passed begins_type is_abstract_list prefix_step prefix_passed list_shape suffix_step suffixes_by declarator_passed default_step default_passed piece_step parameters_shape no_expression cv_step cv_at array_suffix exceptions_at function_suffix bracket_suffix suffix_at suffixes_at qualified_part name_part grouped_part bracket_part star_part ampersand_part declarator_at pointed_at referred_at grouped_at valued bound_value bound_at parameter_fits default_at parameter_at list_ended comma_passed parameter_ended parameter_step parameters_over some_parameters list_at parameters_at no_value value_at enumerator_at enumerator_ended enumerator_step enumerators_at fallback_now fallback_at both
 order_row bytes (Ok tokens) = order_by (expression_at (here (user 9) (both user 9) 9) (both user 9).phrases level.Whole [] (ahead_of bytes tokens))
 order_row bytes (Err why) = []
 
@@ -180,7 +182,7 @@ unfolding spelling_of keywords alternatives operators digraphs word_kind number_
 order bytes = order_row bytes (tokens_of bytes)
 
 place_row : List ℕ → Result (List Token) Unread → ℕ
-unfolding spelling_of keywords alternatives operators digraphs word_kind number_kind operator literal hash slash percent literal_type literal_value tokens_of tokens_from front longest_within is_of_level selects_member is_assignment is_prefix is_step selected_name selected_step operator_ahead is_literal is_cast_word is_this base_of_kind begins_expression argument_ended argument_step arguments_over some_arguments arguments_behind arguments_at opened_step opened_over opened_passed closed_step closed_passed name_closed name_opened called_name cast_passed begins_cast literal_part this_part name_at called_at named_call value_name_at functional_cast functional_at type_name_at named_at word_at cast_opened cast_closed cast_word_at parenthesis_at primary_at call_step subscript_step step_step postfix_step postfixes_at cast_at parenthesis_part cast_or_parenthesis called_part called_or_not bracket_at prefix_at size_at primary_part operand_at sized_operand sized_type sized_at no_member member_operand operation operation_step operations_at operations_part binary_at conditional_part conditional_by conditional_at assignment_part assignment_by assignment_behind assignment_at comma_part comma_step commas_at whole_at clause_comma clause_ended clause_step some_clauses clauses_behind clauses_at braces_at clause_at copy_at aggregate_at equals_at list_behind direct_at initializer_at type_declared type_id_fits type_id_at type_passed_at repeat is_punct is_keyword is_name is_end is_number passed_from no_part_there path_taken kind_of_name punct_taken no_declarator declared_type refused_in storage_step inline_step const_step volatile_step word_step type_name_step named_step elaborated_step enumeration_body defined_step list_step named_list_step key_step enumeration_step class_named_step class_behind class_name_step class_key_step class_step other_step keyword_step specifier_step typed specifiers_from bracket_step brackets_passed key_shape name_shape keyword_shape run_step run_passed begins_type is_abstract_list prefix_step prefix_passed list_shape suffix_step suffixes_by declarator_passed default_step default_passed piece_step parameters_shape no_expression cv_step cv_at array_suffix exceptions_at function_suffix bracket_suffix suffix_at suffixes_at qualified_part name_part grouped_part bracket_part star_part ampersand_part declarator_at pointed_at referred_at grouped_at valued bound_value bound_at parameter_fits default_at parameter_at list_ended comma_passed parameter_ended parameter_step parameters_over some_parameters list_at parameters_at no_value value_at enumerator_at enumerator_ended enumerator_step enumerators_at fallback_at both
+unfolding spelling_of keywords alternatives operators digraphs word_kind number_kind operator literal hash slash percent literal_type literal_value tokens_of tokens_from front longest_within is_of_level selects_member is_assignment is_prefix is_step selected_name selected_step operator_ahead is_literal is_cast_word is_this base_of_kind begins_expression argument_ended argument_step arguments_over some_arguments arguments_behind arguments_at opened_step opened_over opened_passed closed_step closed_passed name_closed name_opened called_name cast_passed begins_cast literal_part this_part name_at called_at named_call value_name_at functional_cast functional_at type_name_at named_at word_at cast_opened cast_closed cast_word_at parenthesis_at primary_at call_step subscript_step step_step postfix_step postfixes_at cast_at parenthesis_part cast_or_parenthesis called_part called_or_not bracket_at prefix_at size_at primary_part operand_at sized_operand sized_type sized_at no_member member_operand operation operation_step operations_at operations_part binary_at conditional_part conditional_by conditional_at assignment_part assignment_by assignment_behind assignment_at comma_part comma_step commas_at whole_at clause_comma clause_ended clause_step some_clauses clauses_behind clauses_at braces_at clause_at copy_at aggregate_at equals_at list_behind direct_at initializer_at type_declared type_id_fits type_id_at type_passed_at repeat is_punct is_keyword is_name is_end is_number passed_from no_part_there path_taken kind_of_name punct_taken no_declarator declared_type refused_in storage_step inline_step const_step volatile_step word_step type_name_step named_step elaborated_step enumeration_body defined_step list_step named_list_step key_step enumeration_step class_named_step class_behind class_name_step class_key_step class_step other_step keyword_step specifier_step typed specifiers_from bracket_step brackets_passed key_shape name_shape keyword_shape run_step run_passed begins_type is_abstract_list prefix_step prefix_passed list_shape suffix_step suffixes_by declarator_passed default_step default_passed piece_step parameters_shape no_expression cv_step cv_at array_suffix exceptions_at function_suffix bracket_suffix suffix_at suffixes_at qualified_part name_part grouped_part bracket_part star_part ampersand_part declarator_at pointed_at referred_at grouped_at valued bound_value bound_at parameter_fits default_at parameter_at list_ended comma_passed parameter_ended parameter_step parameters_over some_parameters list_at parameters_at no_value value_at enumerator_at enumerator_ended enumerator_step enumerators_at fallback_now fallback_at both
 place_row bytes (Ok tokens) = place_by (expression_at (here (user 9) (both user 9) 9) (both user 9).phrases level.Whole [] (ahead_of bytes tokens))
 place_row bytes (Err why) = 0
 
@@ -199,7 +201,7 @@ abbrev shown_initializer : Initializer → List ℕ
 shown_initializer one = form_head one.form ++ shown_each one.parts
 
 initializer_row : List ℕ → Result (List Token) Unread → Row
-unfolding spelling_of keywords alternatives operators digraphs word_kind number_kind operator literal hash slash percent literal_type literal_value tokens_of tokens_from front longest_within is_of_level selects_member is_assignment is_prefix is_step selected_name selected_step operator_ahead is_literal is_cast_word is_this base_of_kind begins_expression argument_ended argument_step arguments_over some_arguments arguments_behind arguments_at opened_step opened_over opened_passed closed_step closed_passed name_closed name_opened called_name cast_passed begins_cast literal_part this_part name_at called_at named_call value_name_at functional_cast functional_at type_name_at named_at word_at cast_opened cast_closed cast_word_at parenthesis_at primary_at call_step subscript_step step_step postfix_step postfixes_at cast_at parenthesis_part cast_or_parenthesis called_part called_or_not bracket_at prefix_at size_at primary_part operand_at sized_operand sized_type sized_at no_member member_operand operation operation_step operations_at operations_part binary_at conditional_part conditional_by conditional_at assignment_part assignment_by assignment_behind assignment_at comma_part comma_step commas_at whole_at clause_comma clause_ended clause_step some_clauses clauses_behind clauses_at braces_at clause_at copy_at aggregate_at equals_at list_behind direct_at initializer_at type_declared type_id_fits type_id_at type_passed_at repeat is_punct is_keyword is_name is_end is_number passed_from no_part_there path_taken kind_of_name punct_taken no_declarator declared_type refused_in storage_step inline_step const_step volatile_step word_step type_name_step named_step elaborated_step enumeration_body defined_step list_step named_list_step key_step enumeration_step class_named_step class_behind class_name_step class_key_step class_step other_step keyword_step specifier_step typed specifiers_from bracket_step brackets_passed key_shape name_shape keyword_shape run_step run_passed begins_type is_abstract_list prefix_step prefix_passed list_shape suffix_step suffixes_by declarator_passed default_step default_passed piece_step parameters_shape no_expression cv_step cv_at array_suffix exceptions_at function_suffix bracket_suffix suffix_at suffixes_at qualified_part name_part grouped_part bracket_part star_part ampersand_part declarator_at pointed_at referred_at grouped_at valued bound_value bound_at parameter_fits default_at parameter_at list_ended comma_passed parameter_ended parameter_step parameters_over some_parameters list_at parameters_at no_value value_at enumerator_at enumerator_ended enumerator_step enumerators_at fallback_at both
+unfolding spelling_of keywords alternatives operators digraphs word_kind number_kind operator literal hash slash percent literal_type literal_value tokens_of tokens_from front longest_within is_of_level selects_member is_assignment is_prefix is_step selected_name selected_step operator_ahead is_literal is_cast_word is_this base_of_kind begins_expression argument_ended argument_step arguments_over some_arguments arguments_behind arguments_at opened_step opened_over opened_passed closed_step closed_passed name_closed name_opened called_name cast_passed begins_cast literal_part this_part name_at called_at named_call value_name_at functional_cast functional_at type_name_at named_at word_at cast_opened cast_closed cast_word_at parenthesis_at primary_at call_step subscript_step step_step postfix_step postfixes_at cast_at parenthesis_part cast_or_parenthesis called_part called_or_not bracket_at prefix_at size_at primary_part operand_at sized_operand sized_type sized_at no_member member_operand operation operation_step operations_at operations_part binary_at conditional_part conditional_by conditional_at assignment_part assignment_by assignment_behind assignment_at comma_part comma_step commas_at whole_at clause_comma clause_ended clause_step some_clauses clauses_behind clauses_at braces_at clause_at copy_at aggregate_at equals_at list_behind direct_at initializer_at type_declared type_id_fits type_id_at type_passed_at repeat is_punct is_keyword is_name is_end is_number passed_from no_part_there path_taken kind_of_name punct_taken no_declarator declared_type refused_in storage_step inline_step const_step volatile_step word_step type_name_step named_step elaborated_step enumeration_body defined_step list_step named_list_step key_step enumeration_step class_named_step class_behind class_name_step class_key_step class_step other_step keyword_step specifier_step typed specifiers_from bracket_step brackets_passed key_shape name_shape keyword_shape run_step run_passed begins_type is_abstract_list prefix_step prefix_passed list_shape suffix_step suffixes_by declarator_passed default_step default_passed piece_step parameters_shape no_expression cv_step cv_at array_suffix exceptions_at function_suffix bracket_suffix suffix_at suffixes_at qualified_part name_part grouped_part bracket_part star_part ampersand_part declarator_at pointed_at referred_at grouped_at valued bound_value bound_at parameter_fits default_at parameter_at list_ended comma_passed parameter_ended parameter_step parameters_over some_parameters list_at parameters_at no_value value_at enumerator_at enumerator_ended enumerator_step enumerators_at fallback_now fallback_at both
 initializer_row bytes (Ok tokens) = row_by shown_initializer (initializer_at (here (user 9) (both user 9) 9) (both user 9).phrases [] (ahead_of bytes tokens))
 initializer_row bytes (Err why) = NoTokens
 

@@ -1,13 +1,13 @@
 -- The readers of declarations and those of expressions inside one another: bounds (8.3.4) and the values of enumerators
 -- (7.2) are expressions, and casts and sizes (5.3.3, 5.4) have types.
-use Rattle.std.specs.Prelude.{ℕ, zero, suc, ℤ, Bool, if◌then◌else◌, List, [], ◌∷◌, ◌++◌, Option, Some, None}
+use Rattle.std.specs.Prelude.{ℕ, zero, suc, ℤ, Bool, true, false, if◌then◌else◌, List, [], ◌∷◌, ◌++◌, Option, Some, None}
 use Rattle.cxx_model.specs.declared.punct.TheConstants as punct
 use Rattle.cxx_model.specs.declared.place.Place.{Place}
 use Rattle.cxx_model.specs.Text.Lexemes.{Lexeme}
 use Rattle.cxx_model.specs.Types.Trees.{CxxType}
 use Rattle.cxx_reading.specs.Kinds.{Fallback, Kinds, Readers}
 use Rattle.cxx_reading.specs.Kinds as declarations
-use Rattle.cxx_reading.specs.Reads.{Reads, Asks, Turn, ◌>>=◌, got, give, ask, taken, tokens, kind_ahead, count_ahead, behind, repeat}
+use Rattle.cxx_reading.specs.Reads.{Reads, Asks, Turn, ◌>>=◌, got, give, ask, looked, taken, tokens, kind_ahead, count_ahead, behind, repeat}
 use Rattle.cxx_reading.specs.Shapes.{parameters_shape}
 use Rattle.cxx_reading.specs.Syntax.{pointed_at, referred_at, grouped_at, parameters_at, no_value, enumerator_ended}
 use Rattle.cxx_reading.specs.Tokens.{is_punct, is_name, token_taken, punct_taken, refused}
@@ -16,11 +16,15 @@ use Rattle.cxx_phrases.specs.Knot.{type_id_at, inner_by}
 use Rattle.cxx_phrases.specs.Levels.{assignment_at, conditional_at}
 use Rattle.cxx_phrases.specs.Phrases.{Phrases, Inner}
 use Rattle.cxx_phrases.specs.Phrases as expressions
+use Rattle.cxx_later.specs.Defaults.{deferred_passed, passed_default_tree}
 
--- What is asked of a default argument (8.3.6): where it begins, with the place of its `=`, whether another one is being read
--- round it; and behind it, with that place, that answer, the index of its parameter and the type, its tree as it is
--- converted.
+-- What is asked of a default argument (8.3.6): whether those here are read where the outermost class has ended; what was
+-- passed over then, of the parameter with an index. Of another one: where it begins, with the place of its `=`, whether another
+-- one is being read round it; and behind it, with that place, that answer, the index of its parameter and the type, its tree
+-- as it is converted.
 pub record Offering (S : Type 0) : Type 0 where
+  pub is_later : Asks S Bool
+  pub passed : ℕ → CxxTree → Asks S (Unit {0})
   pub begun : Place → Asks S Bool
   pub ended : Place → Bool → ℕ → CxxType → CxxTree → Asks S CxxTree
 
@@ -93,13 +97,30 @@ enumerators_at asks at inner number state ahead =
 -- ---- default arguments (8.3.6)
 
 -- from the `=` behind the parameter with an index and a type
-unfoldable pub fallback_at : {S : Type 0} → Asking S → Phrases S → Inner S → Fallback S
-fallback_at asks at inner index of = do
+unfoldable pub fallback_now : {S : Type 0} → Asking S → Phrases S → Inner S → Fallback S
+fallback_now asks at inner index of = do
   equals ← taken
   was ← ask (asks.defaults.begun equals)
   tree ← assignment_at at inner
   converted ← ask (asks.defaults.ended equals was index of tree)
   give (converted ∷ [])
+
+-- in a class it is passed over, and read where the outermost one has ended
+unfoldable pub fallback_later : {S : Type 0} → Asking S → ℕ → Fallback S
+fallback_later asks room index of = do
+  equals ← taken
+  from ← looked
+  passed ← tokens deferred_passed
+  to ← looked
+  kept ← ask (asks.defaults.passed index (passed_default_tree room equals of from to))
+  give (passed_default_tree room equals of from to ∷ [])
+
+abbrev pub fallback_by : {S : Type 0} → Asking S → Phrases S → Inner S → ℕ → CxxType → Bool → Reads S (List CxxTree)
+fallback_by asks at inner index of true = fallback_later asks at.room index of
+fallback_by asks at inner index of false = fallback_now asks at inner index of
+
+unfoldable pub fallback_at : {S : Type 0} → Asking S → Phrases S → Inner S → Fallback S
+fallback_at asks at inner index of = ask asks.defaults.is_later >>= fallback_by asks at inner index of
 
 -- ---- readers inside readers
 

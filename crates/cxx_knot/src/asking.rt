@@ -25,6 +25,17 @@ pub trait Asking: Kinds {
         requires children { AreTreesBelow (length (trees state.old)) node.children }
         ensures { IsAsked tree IsTreeKnown state.old state.new result (wholes self.now room (tree_over (state.old).types (trees state.old) node) (meaning state.old)) };
 
+    /// Whether the default arguments here are read where the outermost class has ended (8.3.6, 9.2 p2).
+    fn is_later(&self, state: &mut State) -> Result<bool, Stop>
+        requires { Self.is_ready self.now }
+        ensures { IsAsked itself AnyKnown state.old state.new result ((offers self.now).is_later (meaning state.old)) };
+
+    /// A default argument of the parameter with an index was passed over.
+    fn passed(&self, state: &mut State, index: usize, number: TreeId) -> Result<(), Stop>
+        requires ready { Self.is_ready self.now }
+        requires number { number.0 < length (trees state.old) }
+        ensures { IsAsked itself AnyKnown state.old state.new result ((offers self.now).passed index (tree state.old number) (meaning state.old)) };
+
     /// A default argument begins, at its `=` (8.3.6): whether another one is being read round it.
     fn begun(&self, state: &mut State, equals: Place) -> Result<bool, Stop>
         requires { Self.is_ready self.now }

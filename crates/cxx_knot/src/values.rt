@@ -11,6 +11,7 @@ ghost use Rattle.cxx_tree.specs.Held.{meaning, type_of};
 
 use crate::asking::Asking;
 use cxx_cursor::{Cursor, Spelled, Turn, is_name, is_punct, joined};
+use cxx_later::{deferred_passed, passed_default};
 use cxx_model::{EnumId, Listed, Stop, TreeId, TreeIdList, TypeId, punct};
 use cxx_phrases::{Level, Phrases, read_expression};
 use cxx_syntax::Defaults;
@@ -214,7 +215,52 @@ impl<K: Asking, P: Phrases> Values<'_, K, P> {
     }
 
     // A default argument, from its `=` on, as it is converted to the type of its parameter (8.3.6).
-    #[tactic(auto, using(cxx_cursor::proofs::Kept::type_kept, cxx_cursor::proofs::Kept::type_later, cxx_cursor::proofs::Kept::later_trans, cxx_cursor::proofs::Kept::later_refl), unfolding(crate::specs::Readers::fallback_at))]
+    #[tactic(auto, using(cxx_cursor::proofs::Kept::type_kept, cxx_cursor::proofs::Kept::type_later, cxx_cursor::proofs::Kept::later_trans, cxx_cursor::proofs::Kept::later_refl), unfolding(crate::specs::Readers::fallback_now))]
+    fn fallback_now(
+        &self,
+        state: &mut State,
+        cursor: &mut Cursor<'_>,
+        index: usize,
+        of: TypeId,
+    ) -> Result<TreeIdList, Stop>
+        requires ready { K.is_ready self.now.kinds.now }
+        requires phrases { P.is_ready self.now.phrases.now }
+        requires known { of.0 < length (state.old).types }
+        ensures { IsRead trees_held AreTreesHeld state.old state.new cursor.new result (definition.fallback_now (asking_by K.asks K.wholes K.offers self.now.kinds.now self.now.room) (P.asks self.now.phrases.now) (P.inner self.now.phrases.now) index (type_of state.old of) (meaning state.old) cursor.old) }
+    {
+        let equals = cursor.place();
+        cursor.advance();
+        let was = self.kinds.begun(state, equals)?;
+        let number = read_expression(self.phrases, state, cursor, Level::Assignment)?;
+        let converted = self.kinds.ended(state, equals, was, index, of, number)?;
+        Ok(one_tree(cursor.alloc(), converted)?)
+    }
+
+    // One that is passed over, from its `=` on.
+    #[tactic(auto, using(cxx_cursor::proofs::Kept::trees_kept, cxx_cursor::proofs::Kept::trees_later, cxx_cursor::proofs::Kept::later_trans, cxx_cursor::proofs::Kept::later_refl), unfolding(crate::specs::Readers::fallback_later))]
+    fn fallback_later(
+        &self,
+        state: &mut State,
+        cursor: &mut Cursor<'_>,
+        index: usize,
+        of: TypeId,
+    ) -> Result<TreeIdList, Stop>
+        requires ready { K.is_ready self.now.kinds.now }
+        requires phrases { P.is_ready self.now.phrases.now }
+        requires known { of.0 < length (state.old).types }
+        ensures { IsRead trees_held AreTreesHeld state.old state.new cursor.new result (definition.fallback_later (asking_by K.asks K.wholes K.offers self.now.kinds.now self.now.room) (P.asks self.now.phrases.now).room index (type_of state.old of) (meaning state.old) cursor.old) }
+    {
+        let equals = cursor.place();
+        cursor.advance();
+        let from = cursor.mark();
+        deferred_passed(cursor)?;
+        let number = passed_default(state, self.phrases.room(), equals, of, &from, cursor)?;
+        self.kinds.passed(state, index, number)?;
+        Ok(one_tree(cursor.alloc(), number)?)
+    }
+
+    // One, or what is passed over of it in a class (9.2 p2).
+    #[tactic(auto, using(cxx_cursor::proofs::Kept::type_kept, cxx_cursor::proofs::Kept::type_later, cxx_cursor::proofs::Kept::later_trans), unfolding(crate::specs::Readers::fallback_at))]
     fn fallback_at(
         &self,
         state: &mut State,
@@ -227,12 +273,10 @@ impl<K: Asking, P: Phrases> Values<'_, K, P> {
         requires known { of.0 < length (state.old).types }
         ensures { IsRead trees_held AreTreesHeld state.old state.new cursor.new result (definition.fallback_at (asking_by K.asks K.wholes K.offers self.now.kinds.now self.now.room) (P.asks self.now.phrases.now) (P.inner self.now.phrases.now) index (type_of state.old of) (meaning state.old) cursor.old) }
     {
-        let equals = cursor.place();
-        cursor.advance();
-        let was = self.kinds.begun(state, equals)?;
-        let number = read_expression(self.phrases, state, cursor, Level::Assignment)?;
-        let converted = self.kinds.ended(state, equals, was, index, of, number)?;
-        Ok(one_tree(cursor.alloc(), converted)?)
+        if self.kinds.is_later(state)? {
+            return self.fallback_later(state, cursor, index, of);
+        }
+        self.fallback_now(state, cursor, index, of)
     }
 }
 

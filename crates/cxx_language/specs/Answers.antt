@@ -6,7 +6,7 @@ use Rattle.cxx_declare.specs.Outside.{enter_member}
 use Rattle.cxx_reading.specs.State.{CxxState}
 use Rattle.cxx_expr.specs.Elaborating.{elaborate}
 use Rattle.cxx_answers.specs.Answers.{constant_here, questions}
-use Rattle.cxx_answers.specs.Defaults.{begin_default, end_default}
+use Rattle.cxx_answers.specs.Defaults.{begin_default, end_default, is_default_later, offer_default}
 use Rattle.cxx_knot.specs.Readers.{Asking}
 
 unfoldable pub asking : ℕ → Asking CxxState
@@ -26,5 +26,5 @@ asking room = record {
     leave_parameters = leave_parameters;
   };
   whole = elaborate questions;
-  defaults = record { begun = begin_default; ended = end_default };
+  defaults = record { is_later = is_default_later; passed = offer_default; begun = begin_default; ended = end_default };
 }

@@ -27,13 +27,14 @@ use Rattle.cxx_declare.specs.Outside.{stand_in}
 use Rattle.cxx_reading.specs.Tokens.{begins_name, is_plain_name, is_punct, is_keyword, is_name, is_number, not_built, path_taken, punct_taken, refused, token_in}
 use Rattle.cxx_reading.specs.Trees.{CxxPath, CxxTree, in_turn, last_part, tree_of}
 use Rattle.cxx_reading.specs.Units.{Said, Listed, declarator_tree, declared_fits, give_trees, is_const_type, is_incomplete, is_unbounded, name_in, no_declarators, nothing_declared, said_by, simple_tree, specifiers_tree}
+use Rattle.cxx_later.specs.Defaults.{defaults_in, defaults_kept}
 use Rattle.cxx_later.specs.Waiting.{waiting_in}
 use Rattle.cxx_declare.specs.declared.class_definitions.MemberWords.{MemberWords}
 use Rattle.cxx_declare.specs.Bases.{BaseOf, declare_base}
 use Rattle.cxx_declare.specs.ClassDefinitions.{begin_class, begin_unnamed, declare_member, end_class}
 use Rattle.cxx_language.specs.Asked.{asked, inner_at}
 use Rattle.cxx_language.specs.Bodies.{standing}
-use Rattle.cxx_language.specs.Later.{Declares, all_read, alone, ended_by, member_body}
+use Rattle.cxx_language.specs.Later.{Declares, all_read, ended_by, member_body}
 use Rattle.cxx_language.specs.Synonyms.{bare_synonym}
 use Rattle.cxx_language.specs.Values.{member_value}
 
@@ -152,11 +153,11 @@ body_unless_pure true is_first of declarator list = give []
 body_unless_pure false is_first of declarator list = member_body is_first of declarator list
 
 -- what a declarator of a member leads to, given its tree
-abbrev pub with_tree : CxxTree → List CxxTree → Declares
-with_tree tree body = record { tree = tree; body = body }
+abbrev pub with_tree : CxxTree → List CxxTree → List CxxTree → Declares
+with_tree tree defaults body = record { tree = tree; defaults = defaults; body = body }
 
-unfoldable pub declared_behind : Bool → Bool → CxxType → Option ℕ → CxxTree → Reads CxxState Declares
-declared_behind is_pure is_first of list tree = body_unless_pure is_pure is_first of tree list >>= λ body. give (with_tree tree body)
+unfoldable pub declared_behind : Bool → Bool → CxxType → Option ℕ → List CxxTree → CxxTree → Reads CxxState Declares
+declared_behind is_pure is_first of list defaults tree = body_unless_pure is_pure is_first of tree list >>= λ body. give (with_tree tree defaults body)
 
 -- a data member or a function, given its declarator
 unfoldable pub data_member : ℕ → Labelled → Said → Bool → Declarator → Ahead → Reads CxxState Declares
@@ -164,21 +165,24 @@ data_member room label said is_first declarator from = do
   narrow ← no_bit_field (name_in declarator)
   fits ← declared_fits said declarator
   is_pure ← pure_ahead (is_virtual_member label.is_virtual said (type_of_member said declarator))
-  number ← ask (declare_member (words_of_member label said (type_of_member said declarator) is_pure) (name_in declarator) (type_of_member said declarator))
+  number ← ask (declare_member (words_of_member label said (type_of_member said declarator) is_pure) (own_parameters declarator.layers) (name_in declarator) (type_of_member said declarator))
+  defaults ← defaults_kept (own_parameters declarator.layers) (Some number)
   whole ← whole_member said.is_static (name_in declarator) (type_of_member said declarator)
   value ← value_or_pure is_pure room said.is_static (name_in declarator) (type_of_member said declarator) number
   to ← looked
-  declared_behind is_pure is_first (type_of_member said declarator) (own_parameters declarator.layers) (declarator_tree false (name_in declarator) (type_of_member said declarator) number (declarator.parts ++ value) from to)
+  declared_behind is_pure is_first (type_of_member said declarator) (own_parameters declarator.layers) defaults (declarator_tree false (name_in declarator) (type_of_member said declarator) number (declarator.parts ++ value) from to)
 
 -- 7.1.3: a name of a type, given its declarator
-unfoldable pub synonym_member : Said → Declarator → Ahead → Reads CxxState CxxTree
+unfoldable pub synonym_member : Said → Declarator → Ahead → Reads CxxState Declares
 synonym_member said declarator from = do
   fits ← declared_fits said declarator
-  bare_synonym said declarator from
+  tree ← bare_synonym said declarator from
+  defaults ← defaults_kept None None
+  give (with_tree tree defaults [])
 
 unfoldable pub declared_member : ℕ → Labelled → Said → Bool → Declarator → Ahead → Reads CxxState Declares
 declared_member room label said is_first declarator from state ahead =
-    if said.is_typedef then (synonym_member said declarator from >>= alone) state ahead else data_member room label said is_first declarator from state ahead
+    if said.is_typedef then synonym_member said declarator from state ahead else data_member room label said is_first declarator from state ahead
 
 unfoldable pub named_member_at : ℕ → Labelled → Said → Bool → Reads CxxState Declares
 named_member_at room label said is_first = do
@@ -387,7 +391,8 @@ unfoldable pub no_anonymous_union : Head → Reads CxxState (Unit {0})
 no_anonymous_union head state ahead =
     if head.is_union && (is_none head.name && is_punct punct.SEMICOLON (kind_ahead ahead)) then fault_at head.place (says.LeftOut form.AnonymousUnion) state ahead else got tt state ahead
 
--- from its key on, given how the list of its members is read
+-- From its key on, given how the list of its members is read. What was passed over in it and belongs to no declarator of a
+-- member (8.3.6 p3), as in the value of an enumerator, stands behind them.
 unfoldable pub class_by : (Head → List CxxTree → Reads CxxState (List CxxTree)) → Specifiers → Reads CxxState Specifiers
 class_by list so_far = do
   outside ← standing
@@ -400,8 +405,9 @@ class_by list so_far = do
   members ← list head bases
   ended ← ask (end_class number head.place)
   whole ← no_anonymous_union head
+  left ← defaults_kept None None
   to ← looked
-  give (with_class so_far number (class_tree head number members from to))
+  give (with_class so_far number (class_tree head number (members ++ left) from to))
 
 -- behind the `{` of a class, with its end: its bases and members
 unfoldable pub list_at : ℕ → Head → List CxxTree → Reads CxxState (List CxxTree)
@@ -426,13 +432,13 @@ member_specifiers room = member_specifiers_by (class_at room) room
 abbrev pub with_parts : Specifiers → List CxxTree → Specifiers
 with_parts so_far parts = record so_far { parts = so_far.parts ++ parts }
 
--- 9.2 p2: a class that stands in no other one, with the bodies of the functions in it
+-- 9.2 p2: a class that stands in no other one, with the default arguments and the bodies of the functions in it
 unfoldable pub class_whole : ℕ → Specifiers → Reads CxxState Specifiers
 class_whole room so_far = do
   from ← looked
   one ← class_at room so_far
   to ← looked
-  bodies ← all_read from to (waiting_in room (in_turn one.parts))
+  bodies ← all_read from to (defaults_in (in_turn one.parts)) (waiting_in room (in_turn one.parts))
   give (with_parts one bodies)
 
 -- behind those that were read: with a class, where one is defined there

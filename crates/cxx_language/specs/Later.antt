@@ -1,5 +1,6 @@
--- Bodies of functions in a class (9.3). They are read where the outermost class has ended, since all its members are known in
--- them (3.3.6, 9.2 p2): their tokens are passed over first, and read then, one body after another.
+-- Default arguments and bodies of functions in a class (8.3.6, 9.3). They are read where the outermost class has ended, since
+-- all its members are known in them (3.3.6, 9.2 p2): their tokens are passed over first, and read then, one after another, the
+-- default arguments before the bodies, whose calls may need them.
 use Rattle.std.specs.Prelude.{ℕ, Bool, not, nat_lt, if◌then◌else◌, List, [], ◌∷◌, ◌++◌, Option, Some, None}
 use Rattle.cxx_model.specs.declared.fault.FaultText.TheVariants as says
 use Rattle.cxx_model.specs.declared.fault.LeftOut.TheVariants as form
@@ -10,23 +11,33 @@ use Rattle.cxx_reading.specs.Declarators.{is_function_type}
 use Rattle.cxx_reading.specs.Declaring.{scope_count}
 use Rattle.cxx_reading.specs.Labels.{label_from}
 use Rattle.cxx_reading.specs.Productions as production
-use Rattle.cxx_reading.specs.Reads.{Reads, Ahead, Turn, Done, ◌>>=◌, got, give, fault_at, looked, kind_ahead, place_ahead}
+use Rattle.cxx_reading.specs.Reads.{Reads, Ahead, Turn, Done, ◌>>=◌, got, give, ask, fault_at, looked, kind_ahead, place_ahead}
 use Rattle.cxx_reading.specs.State.{CxxState}
 use Rattle.cxx_reading.specs.Tokens.{is_keyword, is_punct, refused}
 use Rattle.cxx_reading.specs.Trees.{CxxTree, tree_of}
 use Rattle.cxx_reading.specs.Units.{Listed, declarator_ended, one_tree, with_declarator}
-use Rattle.cxx_language.specs.Bodies.{function_body}
+use Rattle.cxx_phrases.specs.Levels.{assignment_at}
+use Rattle.cxx_answers.specs.Defaults.{begin_later, end_later}
+use Rattle.cxx_declare.specs.Outside.{stand_in}
+use Rattle.cxx_language.specs.Asked.{inner_at, phrases_at}
+use Rattle.cxx_language.specs.Bodies.{function_body, standing}
+use Rattle.cxx_later.specs.Defaults.{LaterDefault}
 use Rattle.cxx_later.specs.Passing.{body_later, ends_where, forward_to}
 use Rattle.cxx_later.specs.Waiting.{Waiting, name_declared}
 
--- ---- what a declarator leads to: its tree, and the body of the function that it defines
+-- ---- what a declarator leads to: its tree, what is kept of the default arguments that were passed over in it, and the body of
+-- the function that it defines
 
 pub record Declares : Type 0 where
   pub tree : CxxTree
+  pub defaults : List CxxTree
   pub body : List CxxTree
 
 abbrev pub alone : CxxTree → Reads CxxState Declares
-alone tree = give (record { tree = tree; body = [] })
+alone tree = give (record { tree = tree; defaults = []; body = [] })
+
+abbrev pub with_defaults : Listed → List CxxTree → Listed
+with_defaults so_far defaults = record so_far { trees = so_far.trees ++ defaults }
 
 -- behind a body a declaration has ended
 abbrev pub ended_behind : Listed → CxxTree → List CxxTree → Reads CxxState (Turn Listed (List CxxTree))
@@ -34,7 +45,7 @@ ended_behind so_far tree [] = declarator_ended so_far tree
 ended_behind so_far tree (body ∷ others) = give (Done ((with_declarator tree so_far).trees ++ body ∷ []))
 
 abbrev pub ended_by : Listed → Declares → Reads CxxState (Turn Listed (List CxxTree))
-ended_by so_far one = ended_behind so_far one.tree one.body
+ended_by so_far one = ended_behind (with_defaults so_far one.defaults) one.tree one.body
 
 -- ---- behind a declarator
 
@@ -87,10 +98,34 @@ unfoldable pub each_read : List Waiting → List CxxTree → Reads CxxState (Lis
 each_read [] so_far = give so_far
 each_read (one ∷ others) so_far = waiting_read one >>= λ tree. each_read others (so_far ++ tree ∷ [])
 
--- 9.2 p2: those of a class whose definition stands from one place up to another, where the reader stands then
-unfoldable pub all_read : Ahead → Ahead → List Waiting → Reads CxxState (List CxxTree)
-all_read from to waiting = do
+-- a default argument, from behind its `=`, in the scope of its list: it ends where it ended when it was passed over, and the
+-- reader stands where it stood before
+unfoldable pub default_read : LaterDefault → Reads CxxState (Unit {0})
+default_read one = do
+  there ← list_there one.list
+  outside ← standing
+  entered ← ask (stand_in one.list)
+  begun ← ask begin_later
+  tree ← assignment_at (phrases_at one.room) (inner_at one.room).phrases
+  kept ← ask (end_later one.equals one.number one.index one.of tree)
+  left ← ask (stand_in outside)
+  ends_where one.last
+
+-- the next one, from where the reader stands
+unfoldable pub later_read : LaterDefault → Reads CxxState (Unit {0})
+later_read one = forward_to one.first >>= λ there. default_read one
+
+-- one after another
+unfoldable pub defaults_read : List LaterDefault → Reads CxxState (Unit {0})
+defaults_read [] = give tt
+defaults_read (one ∷ others) = later_read one >>= λ was_read. defaults_read others
+
+-- 9.2 p2: those of a class whose definition stands from one place up to another, where the reader stands then; and its bodies
+unfoldable pub all_read : Ahead → Ahead → List LaterDefault → List Waiting → Reads CxxState (List CxxTree)
+all_read from to defaults waiting = do
   back ← back_to from
+  were_read ← defaults_read defaults
+  again ← back_to from
   bodies ← each_read waiting []
   there ← back_to to
   give bodies

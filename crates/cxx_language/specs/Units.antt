@@ -67,7 +67,7 @@ declared_function room said is_first declarator from = do
   number ← ask (function_declared said declarator)
   to ← looked
   body ← function_ended room is_first declarator (declared_type declarator.layers said.of) number
-  give (record { tree = declarator_tree said.is_extern (name_in declarator) (declared_type declarator.layers said.of) number declarator.parts from to; body = body })
+  give (record { tree = declarator_tree said.is_extern (name_in declarator) (declared_type declarator.layers said.of) number declarator.parts from to; defaults = []; body = body })
 
 -- 3.3.1: a name is declared once its declarator is complete, before what follows is looked at
 abbrev pub declared_by : ℕ → Said → Bool → Ahead → Declarator → Reads CxxState Declares

@@ -24,15 +24,15 @@ use Rattle.cxx_phrases.specs.Productions as phrase
 use Rattle.cxx_reading.specs.declared.region.Region.{Region}
 use Rattle.cxx_reading.specs.Declaring.{elaborated_here, elaborated_by, elaborated_found, enumeration_in}
 use Rattle.cxx_reading.specs.Givers.{giver, givers, with_givers}
-use Rattle.cxx_reading.specs.Paths.{ambiguous_member_at, by_bases, name_in, region_of, scope_of_region, sought_in}
+use Rattle.cxx_reading.specs.Paths.{ambiguous_member_at, by_bases, first_region, name_in, region_by, region_of, scope_of_region, sought_in}
 use Rattle.cxx_reading.specs.Reads.{Ahead, behind, place_ahead}
 use Rattle.cxx_reading.specs.Seen.{Numbered, fact_numbers, numbered_at, set_in}
 use Rattle.cxx_reading.specs.State.{CxxGiven, CxxState}
 use Rattle.cxx_reading.specs.Tokens.{begins_name, behind_name, is_whole_name, path_ahead}
 use Rattle.cxx_reading.specs.Trees.{CxxPath, CxxPathPart, CxxTree, children_of, each_tree, in_turn, is_plain_path, last_part, Label}
-use Rattle.cxx_tree.specs.Defaults.{first_given, within_default}
+use Rattle.cxx_tree.specs.Defaults.{first_given, with_offer, within_default}
 use Rattle.cxx_tree.specs.Uses.{with_use}
-use Rattle.cxx_expr.specs.Calls.{bare_word, class_called, implied_type, is_bare, member_question}
+use Rattle.cxx_expr.specs.Calls.{bare_word, class_called, implied_type, is_bare, member_question, name_alone}
 use Rattle.cxx_this.specs.This.{class_at}
 use Rattle.cxx_expr.specs.Implied.{object_for}
 use Rattle.cxx_expr.specs.Members.{class_of_object}
@@ -41,7 +41,7 @@ use Rattle.cxx_expr.specs.Operands.{object_operand}
 use Rattle.cxx_expr.specs.Elaborating.{elaborate}
 use Rattle.cxx_language.specs.Answers.{asking}
 use Rattle.cxx_answers.specs.Answers.{associated_functions, bound_here, call_here, constant_by, constant_here, fallback_by, fallback_here, fresh_among, is_held, is_not_built, meant_in, name_here, name_in_region, name_meant, names_local, names_tested, questions, scope_of_giver, size_here, word_or_none}
-use Rattle.cxx_answers.specs.Defaults.{begin_default, end_default, is_list_of_class, offered_as}
+use Rattle.cxx_answers.specs.Defaults.{begin_default, class_of_list, end_default, is_class_open, is_default_later, is_list_of_class, offer_default, offered_as}
 use Rattle.cxx_answers.specs.Members.{has_begun, in_state, member_found as member_answered, member_here}
 use Rattle.cxx_language.specs.Asked.{answers, asked, inner_at, phrases_at}
 use Rattle.cxx_language_laws.specs.Best.{IsClear, asked_word, functions_by_types, values_besides, values_of}
@@ -115,15 +115,21 @@ kinds_tell room = record {
 
 -- ---- expressions
 
-fallback_by_tells : {told : CxxState → Ahead → Stopped → Type 0} → IsTold IsLater told → (state : CxxState) (given : Option CxxGiven) (ahead : Ahead) → ToldBy IsLater told state ahead (fallback_by state given)
-fallback_by_tells is state None ahead = quiet_by is refl
-fallback_by_tells is state (Some given) ahead = same_by is given.tree state ahead
+fallback_by_tells : {told : CxxState → Ahead → Stopped → Type 0} → IsTold IsLater told → (place : Place) (state : CxxState) (given : Option CxxGiven) (ahead : Ahead) → ToldBy IsLater told state ahead (fallback_by place state given)
+fallback_by_tells is place state None ahead = quiet_by is refl
+fallback_by_tells is place state (Some given) ahead = same_by is given.tree state ahead
+
+-- 8.3.6: a name alone is looked up where the reader stands
+alone_tells : {told : CxxState → Ahead → Stopped → Type 0} → IsTold IsLater told → (part : CxxPathPart) (function index : ℕ) → Answers IsLater told (fallback_here (name_alone part) function index)
+unfolding fallback_here region_of region_by
+alone_tells is part function index state ahead = fallback_by_tells is part.place state (first_given state.graph.facts (scope_of_giver state.graph function (giver state.graph (scope_of_region (first_region state.here.scope false)) function)) function index state.given) ahead
 
 questions_tell : {told : CxxState → Ahead → Stopped → Type 0} → IsTold IsLater told → QuestionsTell IsLater told answers
 unfolding questions bound_here size_here
 questions_tell is = record {
   bound = λ place target state ahead. tells_answer (tt, with_use place target state) (later_same state (with_use place target state) refl refl refl);
   size = λ of state ahead. same_by is _ state ahead;
+  alone = alone_tells is;
 }
 
 -- ---- what a name means (3.4)
@@ -421,8 +427,8 @@ call_defaults : (state : CxxState) (ahead : Ahead) (room : ℕ) (call : IsUnitCa
 unfolding questions fallback_here
 call_defaults state ahead room call = record { fallback = λ function index t rest. by function index t rest (region_of t.graph t.here.scope (called call)) refl }
   where
-    by : (function index : ℕ) (t : CxxState) (rest : Ahead) (o : Answer Region) → region_of t.graph t.here.scope (called call) ≡ o → ToldBy IsLater (ToldSince state ahead) t rest (o >>= λ where_. fallback_by t (first_given t.graph.facts (scope_of_giver (giver t.graph (scope_of_region where_) function)) function index t.given))
-    by function index t rest (Ok where_) means = fallback_by_tells (later_is_told_since state ahead) t (first_given t.graph.facts (scope_of_giver (giver t.graph (scope_of_region where_) function)) function index t.given) rest
+    by : (function index : ℕ) (t : CxxState) (rest : Ahead) (o : Answer Region) → region_of t.graph t.here.scope (called call) ≡ o → ToldBy IsLater (ToldSince state ahead) t rest (o >>= λ where_. fallback_by (last_part (called call).parts).place t (first_given t.graph.facts (scope_of_giver t.graph function (giver t.graph (scope_of_region where_) function)) function index t.given))
+    by function index t rest (Ok where_) means = fallback_by_tells (later_is_told_since state ahead) (last_part (called call).parts).place t (first_given t.graph.facts (scope_of_giver t.graph function (giver t.graph (scope_of_region where_) function)) function index t.given) rest
     by function index t rest (Err why) e = tells_refusal why (λ later. name_of_call state ahead room call t later why (region_told t call.named call.begins call.whole why e))
 
 -- what is asked in a later state
@@ -615,6 +621,14 @@ through_ahead_tells room state ahead call later =
 
 -- ---- default arguments (8.3.6)
 
+is_later_tells : Answers IsLater Told is_default_later
+unfolding is_default_later
+is_later_tells state ahead = same_by later_is_told (is_class_open state.graph (class_of_list state)) state ahead
+
+offer_tells : (index : ℕ) (tree : CxxTree) → Answers IsLater Told (offer_default index tree)
+unfolding offer_default
+offer_tells index tree state ahead = tells_answer (tt, with_offer index tree state) (later_same state (with_offer index tree state) refl refl refl)
+
 begin_tells : (equals : Place) → Answers IsLater Told (begin_default equals)
 unfolding begin_default
 begin_tells equals state ahead = if_by (is_list_of_class state) (quiet_by later_is_told refl) (tells_answer (state.in_default, within_default true state) (later_same state (within_default true state) refl refl refl))
@@ -626,6 +640,8 @@ end_tells equals was index of tree state ahead = by_answer state ahead _ (conver
 pub offers_tell : (room : ℕ) → OffersTell IsLater Told (asked room).defaults
 unfolding asking
 offers_tell room = record {
+  is_later = is_later_tells;
+  passed = offer_tells;
   begun = begin_tells;
   ended = λ equals was index of tree. calmly later_is_told (end_tells equals was index of tree);
 }

@@ -18,7 +18,7 @@ use Rattle.cxx_reading.specs.Reads.{Ahead}
 use Rattle.cxx_reading.specs.Seen.{declared_in}
 use Rattle.cxx_reading.specs.State.{CxxState}
 use Rattle.cxx_declare.specs.declared.class_definitions.MemberWords.{MemberWords}
-use Rattle.cxx_declare.specs.ClassDefinitions.{added_each, begin_class, begin_unnamed, begun_as, class_end, class_here, class_scope, declare_member, define_again, define_by, define_new, end_class, ended_as, enter_class, enter_unnamed, injected_name, member_here, unnamed_here, member_by}
+use Rattle.cxx_declare.specs.ClassDefinitions.{added_each, begin_class, begin_unnamed, begun_as, class_end, class_here, class_scope, declare_member, define_again, define_by, define_new, end_class, ended_as, enter_class, enter_unnamed, injected_name, member_defaults, member_here, unnamed_here, member_by}
 use Rattle.cxx_language_laws.proofs.Classed.{reserved_tells, still_within}
 use Rattle.cxx_language_laws.proofs.Later.{IsLater, added_behind, added_tells, declare_tells, free_quiet, later_is_kept, may_be_added, turned, undefined_quiet, added_there, behind_answer}
 use Rattle.cxx_language_laws.proofs.Opened.{InSpace, IsRound, added_is, quiet_then, round_grown, scope_round, space_closed, stands_in, then_answer}
@@ -95,19 +95,19 @@ unnamed_tells is_union place state ahead =
 abbrev member_with : CxxState → Access → Lexeme → Declares → CxxFact
 member_with state access name what = record { place = name.place; scope = state.here.scope; name = spelled name.spelling; access = access; what = what }
 
-member_by_tells : (is_function : Bool) (words : MemberWords) (name : Lexeme) (of : CxxType) (state : CxxState) (ahead : Ahead) → ToldBy IsLater Quietly state ahead (declare (member_with state words.access name (member_by is_function words of)) name.spelling state)
-member_by_tells true words name of state ahead = let fact = member_with state words.access name (member_by true words of) in declare_tells fact name.spelling state ahead refl (may_be_added state fact refl tt)
-member_by_tells false words name of state ahead = let fact = member_with state words.access name (member_by false words of) in declare_tells fact name.spelling state ahead refl (may_be_added state fact refl tt)
+member_by_tells : (is_function : Bool) (words : MemberWords) (name : Lexeme) (of : CxxType) (defaults : ℕ) (state : CxxState) (ahead : Ahead) → ToldBy IsLater Quietly state ahead (declare (member_with state words.access name (member_by is_function words of defaults)) name.spelling state)
+member_by_tells true words name of defaults state ahead = let fact = member_with state words.access name (member_by true words of defaults) in declare_tells fact name.spelling state ahead refl (may_be_added state fact refl tt)
+member_by_tells false words name of defaults state ahead = let fact = member_with state words.access name (member_by false words of defaults) in declare_tells fact name.spelling state ahead refl (may_be_added state fact refl tt)
 
-pub member_tells : (words : MemberWords) (name : Lexeme) (of : CxxType) (state : CxxState) (ahead : Ahead) → ToldBy IsLater Quietly state ahead (declare_member words name of state)
+pub member_tells : (words : MemberWords) (list : Option ℕ) (name : Lexeme) (of : CxxType) (state : CxxState) (ahead : Ahead) → ToldBy IsLater Quietly state ahead (declare_member words list name of state)
 unfolding declare_member
-member_tells words name of state ahead = member_by_tells (is_function_type of) words name of state ahead
+member_tells words list name of state ahead = member_by_tells (is_function_type of) words name of (member_defaults state list of) state ahead
 
 -- it has a number then
-pub member_is_there : (words : MemberWords) (name : Lexeme) (of : CxxType) (state : CxxState) (answer : ℕ × CxxState) → declare_member words name of state ≡ Ok answer → answer.0 < length answer.1.graph.facts
+pub member_is_there : (words : MemberWords) (list : Option ℕ) (name : Lexeme) (of : CxxType) (state : CxxState) (answer : ℕ × CxxState) → declare_member words list name of state ≡ Ok answer → answer.0 < length answer.1.graph.facts
 unfolding declare_member free declare
-member_is_there words name of state answer e =
-    let fact = member_here state words name of in
+member_is_there words list name of state answer e =
+    let fact = member_here state words name of (member_defaults state list of) in
     let one = behind_answer (free state fact name.spelling) (λ is_free. added fact state) answer e in
     added_there fact state answer one.1
 

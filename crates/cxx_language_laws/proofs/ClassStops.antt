@@ -16,30 +16,32 @@ use Rattle.cxx_reading.specs.Declarators.{Declarator, Specifiers, declared_type,
 use Rattle.cxx_reading.specs.Declaring.{at_scope}
 use Rattle.cxx_declare.specs.Outside.{stand_in}
 use Rattle.cxx_reading.specs.Reads.{Ahead, Got, Reads, More, Done, ◌>>=◌, then_read, answered, ask, taken, looked, give, count_ahead, kind_ahead, place_ahead, behind, fault_at, got}
-use Rattle.cxx_reading.specs.Shapes.{closes, opens}
 use Rattle.cxx_reading.specs.State.{CxxState}
 use Rattle.cxx_reading.specs.Specifiers.{place_or}
-use Rattle.cxx_reading.specs.Tokens.{is_end, is_keyword, is_name, is_punct, begins_name, is_plain_name}
+use Rattle.cxx_reading.specs.Tokens.{is_keyword, is_name, is_punct, begins_name, is_plain_name}
 use Rattle.cxx_reading.specs.Trees.{CxxTree}
 use Rattle.cxx_reading.specs.Units.{Listed, Said, declared_fits, declarator_tree, give_trees, is_incomplete, is_unbounded, name_in, no_declarators, said_by, simple_tree, specifiers_tree}
 use Rattle.cxx_declare.specs.ClassDefinitions.{end_class, declare_member}
-use Rattle.cxx_language.specs.Classes.{BaseList, Head, Members, access_by, access_step, access_word, bases_at, bases_in, bases_or_none, begins_by, behind_bases, behind_name, class_at, class_begins, class_by, class_tree, comes_later, data_member, declared_member, declared_step, give_members, head_at, is_mutable_member, is_none, key_access, list_at, list_step, list_step_by, member_at, member_declaration_at, member_declaration_by, member_step, member_specifiers, member_specifiers_by, members_by, name_ahead, named_member_at, nested_or_not, no_anonymous_union, no_bit_field, synonym_member, whole_member, with_class, with_member, type_of_member, Labelled, begins_pure, begins_virtual, behind_virtual, behind_words, body_unless_pure, declared_behind, is_virtual_member, labelled, pure_ahead, pure_taken, value_or_pure, with_tree, words_of_member}
+use Rattle.cxx_language.specs.Classes.{BaseList, Head, Members, access_by, access_step, access_word, bases_at, bases_in, bases_or_none, begins_by, behind_bases, behind_name, class_at, class_begins, class_by, class_tree, comes_later, data_member, declared_member, declared_step, give_members, head_at, is_none, key_access, list_at, list_step, list_step_by, member_at, member_declaration_at, member_declaration_by, member_step, member_specifiers, member_specifiers_by, members_by, name_ahead, named_member_at, nested_or_not, no_anonymous_union, no_bit_field, synonym_member, whole_member, with_class, with_member, type_of_member, Labelled, begins_pure, begins_virtual, behind_virtual, behind_words, body_unless_pure, declared_behind, is_virtual_member, labelled, pure_ahead, pure_taken, value_or_pure, with_tree, words_of_member}
 use Rattle.cxx_language.specs.Later.{Declares, list_then_body, member_body}
-use Rattle.cxx_later.specs.Passing.{body_later, body_passed, closes_by, innermost, never_closed, passed_tree, passing_step}
+use Rattle.cxx_later.specs.Defaults.{defaults_kept, later_trees}
+use Rattle.cxx_later.specs.Passing.{body_later, passed_tree}
+use Rattle.cxx_tree.specs.Defaults.{without_offers}
 use Rattle.cxx_language_laws.specs.Stopping.{BeginsClass, Gives, NamesBases, a_class, a_member_declaration, begins_class, behind_member_class, further_specifiers_of, in_bases, in_class, in_member, in_member_declarator, in_member_specifiers, names_bases, next_member, next_member_declarator, some_bases, some_further_specifiers, some_member_declarators, some_members, to_member_class, to_member_declarators, Leads, a_member_value, declarator_of, to_member_value, Part}
 use Rattle.cxx_language_laws.specs.Told.{EndsIn}
 use Rattle.cxx_language_laws.proofs.Asked.{kinds_tell}
 use Rattle.cxx_language_laws.proofs.Bases.{bases_stop}
 use Rattle.cxx_language_laws.proofs.Both.{both_tell}
 use Rattle.cxx_language_laws.proofs.ClassBegins.{begin_tells, end_tells, member_tells, unnamed_tells, member_is_there}
-use Rattle.cxx_language_laws.proofs.Declared.{alone_tells, bare_synonym_tells, ended_by_tells, give_trees_tells, nothing_tells, one_tree_tells}
+use Rattle.cxx_language_laws.proofs.Declared.{bare_synonym_tells, ended_by_tells, give_trees_tells, nothing_tells, one_tree_tells}
 use Rattle.cxx_language_laws.proofs.DeclaratorsStop.{declarator_stops, specifiers_stop, fits_stops}
-use Rattle.cxx_language_laws.proofs.Later.{IsLater, grown_later, grown_same, later_is_kept, later_is_quiet, same_calls}
+use Rattle.cxx_language_laws.proofs.Later.{IsLater, grown_later, grown_same, later_is_kept, later_is_quiet, later_same, same_calls, turned}
 use Rattle.cxx_language_laws.proofs.Opened.{InSpace, round_grown, stands_in}
 use Rattle.cxx_language_laws.proofs.Reached.{behind_by_later, count_more, later_is_told}
 use Rattle.cxx_language_laws.proofs.Scopes.{scope_is_there, scopes_at}
 use Rattle.cxx_language_laws.proofs.Stopping.{ChainedOf, Inside, InsideBy, Stops, calm, calm_from, innermost_stops, later_here, leads_here, leads_in, quiet_told, repeat_stops, then_calm, told_within, which_in, whole_calm, whole_stops, within_part, then_asked}
-use Rattle.cxx_language_laws.proofs.Tells.{Quietly, Tells, ToldBy, ask_from, behind_stands, ends_later, give_in, if_in, looked_in, next_in, past_stands, punct_in, quiet_in, same_in, taken_in, tells_answer, tells_read, tells_refusal, tells_stop, then_from, then_in, tokens_in, unit_is_told, nothing, saying, Always, repeat_tells, whole_stands}
+use Rattle.cxx_language_laws.proofs.Tells.{Quietly, Tells, ToldBy, ask_from, behind_stands, ends_later, give_in, if_in, looked_in, next_in, past_stands, punct_in, quiet_in, same_in, taken_in, tells_answer, tells_read, tells_refusal, tells_stop, then_from, then_in, tokens_in, unit_is_told, nothing, saying, whole_stands}
+use Rattle.cxx_language_laws.proofs.TellsPassing.{passed_tells}
 use Rattle.cxx_language_laws.proofs.TellsSpecifiers.{further_tell}
 use Rattle.cxx_language.specs.Values.{constant_part, has_value, member_value}
 use Rattle.cxx_model.specs.declared.fault.FaultText.{FaultText}
@@ -51,18 +53,6 @@ use Rattle.cxx_language_laws.proofs.Objects.{HasNumber, value_tells}
 no_bit_field_tells : (name : Lexeme) → Tells IsLater Quietly (no_bit_field name)
 unfolding no_bit_field
 no_bit_field_tells name state ahead = if_in (is_punct punct.COLON (kind_ahead ahead)) (quiet_in later_is_quiet refl) (same_in later_is_quiet tt state ahead)
-
-passing_tells : (closers : List ℕ) → Tells Always Quietly (passing_step closers)
-unfolding passing_step
-passing_tells closers state ahead =
-    if_in (is_end (kind_ahead ahead)) (quiet_in unit_is_told refl) (
-    if_in (opens (kind_ahead ahead)) (next_in unit_is_told _ state ahead) (
-    if_in (not (closes (kind_ahead ahead))) (next_in unit_is_told _ state ahead) (
-    if_in (closes_by (innermost closers) (kind_ahead ahead)) (next_in unit_is_told _ state ahead) (quiet_in unit_is_told refl))))
-
-passed_tells : Tells Always Quietly body_passed
-unfolding body_passed
-passed_tells state ahead = repeat_tells unit_is_told passing_step never_closed passing_tells (λ closers state ahead. quiet_in unit_is_told refl) _ _ state _
 
 body_later_tells : (list : ℕ) (declarator : CxxTree) → Tells IsLater Quietly (body_later list declarator)
 unfolding body_later
@@ -86,9 +76,9 @@ unless_pure_tells : (is_pure is_first : Bool) (of : CxxType) (declarator : CxxTr
 unless_pure_tells true is_first of declarator list = give_in later_is_quiet []
 unless_pure_tells false is_first of declarator list = member_body_tells is_first of declarator list
 
-behind_tells : (is_pure is_first : Bool) (of : CxxType) (list : Option ℕ) (tree : CxxTree) → Tells IsLater Quietly (declared_behind is_pure is_first of list tree)
+behind_tells : (is_pure is_first : Bool) (of : CxxType) (list : Option ℕ) (defaults : List CxxTree) (tree : CxxTree) → Tells IsLater Quietly (declared_behind is_pure is_first of list defaults tree)
 unfolding declared_behind
-behind_tells is_pure is_first of list tree state ahead = then_in later_is_quiet (unless_pure_tells is_pure is_first of tree list state ahead) (λ body. give_in later_is_quiet (with_tree tree body))
+behind_tells is_pure is_first of list defaults tree state ahead = then_in later_is_quiet (unless_pure_tells is_pure is_first of tree list state ahead) (λ body. give_in later_is_quiet (with_tree tree defaults body))
 
 pure_tells : Tells IsLater Quietly pure_taken
 unfolding pure_taken
@@ -104,9 +94,17 @@ fits_tells : (said : Said) (declarator : Declarator) → Tells IsLater Quietly (
 unfolding declared_fits
 fits_tells said declarator state ahead = if_in (is_refused (refused_in declarator.layers said.of) || (not said.is_typedef && is_void (declared_type declarator.layers said.of))) (quiet_in later_is_quiet refl) (same_in later_is_quiet tt state ahead)
 
+-- 8.3.6: the default arguments that were passed over in a declarator
+kept_tells : (list number : Option ℕ) → Tells IsLater Quietly (defaults_kept list number)
+unfolding defaults_kept
+kept_tells list number state ahead = tells_read (record { value = later_trees list number state.offered; state = without_offers state; rest = ahead }) (later_same state (without_offers state) refl refl refl) (whole_stands ahead.tokens)
+
 synonym_member_tells : (said : Said) (declarator : Declarator) (from : Ahead) → Tells IsLater Quietly (synonym_member said declarator from)
 unfolding synonym_member
-synonym_member_tells said declarator from state ahead = then_in later_is_quiet (fits_tells said declarator state ahead) (λ fits. bare_synonym_tells said declarator from)
+synonym_member_tells said declarator from state ahead =
+    then_in later_is_quiet (fits_tells said declarator state ahead) (λ fits state ahead.
+    then_in later_is_quiet (bare_synonym_tells said declarator from state ahead) (λ tree state ahead.
+    then_in later_is_quiet (kept_tells None None state ahead) (λ defaults. give_in later_is_quiet (with_tree tree defaults []))))
 
 -- the value of a member in its class
 value_stops : (room : ℕ) (name : Lexeme) (of : CxxType) (number : ℕ) (state : CxxState) (ahead : Ahead) → HasNumber number state → Stops (a_member_value room name of number) state ahead (constant_part room name of number state ahead)
@@ -126,7 +124,7 @@ unless_stops false place text quiet go after rest stops = stops
 -- behind what is declared
 abbrev behind_member : Bool → Bool → Option ℕ → ℕ → Bool → Lexeme → CxxType → List CxxTree → Ahead → ℕ → Reads CxxState Declares
 behind_member is_pure is_first list room is_static name of parts from number =
-    whole_member is_static name of >>= λ whole. value_or_pure is_pure room is_static name of number >>= λ value. looked >>= λ to. declared_behind is_pure is_first of list (declarator_tree false name of number (parts ++ value) from to)
+    defaults_kept list (Some number) >>= λ defaults. whole_member is_static name of >>= λ whole. value_or_pure is_pure room is_static name of number >>= λ value. looked >>= λ to. declared_behind is_pure is_first of list defaults (declarator_tree false name of number (parts ++ value) from to)
 
 -- the value of a member in its class, or `= 0`
 value_or_pure_stops : {part : Part} {state : CxxState} {ahead : Ahead} (after : CxxState) (rest : Ahead) (is_pure : Bool) (room : ℕ) (is_static : Bool) (name : Lexeme) (of : CxxType) (number : ℕ) → HasNumber number after
@@ -137,18 +135,21 @@ value_or_pure_stops after rest false room is_static name of number there leads l
 
 -- where it is known whether it is pure
 member_with_stops : (room : ℕ) (label : Labelled) (said : Said) (so_far : Listed) (state : CxxState) (ahead : Ahead) (declarator : Declarator) (after : CxxState) (rest : Ahead) (is_pure : Bool) → declarator_of room naming.Required state ahead ≡ Ok (record { value = declarator; state = after; rest = rest }) → said.is_typedef ≡ false → IsLater state after → EndsIn ahead.tokens rest.tokens
-    → Inside (some_member_declarators room label said so_far) state ahead ((ask (declare_member (words_of_member label said (type_of_member said declarator) is_pure) (name_in declarator) (type_of_member said declarator)) >>= behind_member is_pure so_far.is_first (own_parameters declarator.layers) room said.is_static (name_in declarator) (type_of_member said declarator) declarator.parts ahead) after rest)
-unfolding whole_member
+    → Inside (some_member_declarators room label said so_far) state ahead ((ask (declare_member (words_of_member label said (type_of_member said declarator) is_pure) (own_parameters declarator.layers) (name_in declarator) (type_of_member said declarator)) >>= behind_member is_pure so_far.is_first (own_parameters declarator.layers) room said.is_static (name_in declarator) (type_of_member said declarator) declarator.parts ahead) after rest)
+unfolding defaults_kept whole_member
 member_with_stops room label said so_far state ahead declarator after rest is_pure gives plain later stands =
     let name = name_in declarator in
     let of = type_of_member said declarator in
     let words = words_of_member label said of is_pure in
-    let question = declare_member words name of in
-    let behind = behind_member is_pure so_far.is_first (own_parameters declarator.layers) room said.is_static name of declarator.parts ahead in
-    then_asked behind question (member_tells words name of after rest) later stands (λ answer is more.
-    unless_stops (not said.is_static && (is_unbounded of || is_incomplete answer.1.graph of)) name.place says.IncompleteClass refl _ answer.1 rest (
-    then_calm (value_or_pure_stops answer.1 rest is_pure room said.is_static name of answer.0 (member_is_there words name of after answer is) (λ impure begins. to_member_value gives plain (subst (λ b. declare_member (words_of_member label said of b) name of after ≡ Ok answer) impure is) begins) more stands) (λ value state middle.
-    then_in later_is_quiet (looked_in later_is_quiet state middle) (λ to. behind_tells is_pure so_far.is_first of (own_parameters declarator.layers) (declarator_tree false name of answer.0 (declarator.parts ++ value) ahead to)))))
+    let list = own_parameters declarator.layers in
+    let question = declare_member words list name of in
+    let behind = behind_member is_pure so_far.is_first list room said.is_static name of declarator.parts ahead in
+    then_asked behind question (member_tells words list name of after rest) later stands (λ answer is more.
+    let between = without_offers answer.1 in
+    let defaults = later_trees list (Some answer.0) answer.1.offered in
+    unless_stops (not said.is_static && (is_unbounded of || is_incomplete between.graph of)) name.place says.IncompleteClass refl _ between rest (
+    then_calm (value_or_pure_stops between rest is_pure room said.is_static name of answer.0 (member_is_there words list name of after answer is) (λ impure begins. to_member_value gives plain (subst (λ b. declare_member (words_of_member label said of b) list name of after ≡ Ok answer) impure is) refl begins) (turned state answer.1 between more refl refl refl) stands) (λ value state middle.
+    then_in later_is_quiet (looked_in later_is_quiet state middle) (λ to. behind_tells is_pure so_far.is_first of list defaults (declarator_tree false name of answer.0 (declarator.parts ++ value) ahead to)))))
 
 data_member_stops : (room : ℕ) (label : Labelled) (said : Said) (so_far : Listed) (state : CxxState) (ahead : Ahead) (declarator : Declarator) (after : CxxState) (rest : Ahead) → declarator_of room naming.Required state ahead ≡ Ok (record { value = declarator; state = after; rest = rest }) → said.is_typedef ≡ false → IsLater state after → EndsIn ahead.tokens rest.tokens
     → Inside (some_member_declarators room label said so_far) state ahead (data_member room label said so_far.is_first declarator ahead after rest)
@@ -158,14 +159,14 @@ data_member_stops room label said so_far state ahead declarator after rest gives
     let of = type_of_member said declarator in
     let is_pure = begins_pure (is_virtual_member label.is_virtual said of) rest in
     unless_stops (is_punct punct.COLON (kind_ahead rest)) name.place (says.LeftOut form.BitField) refl _ after rest (
-    fits_stops said declarator (λ fits. pure_ahead (is_virtual_member label.is_virtual said of) >>= λ b. ask (declare_member (words_of_member label said of b) name of) >>= behind_member b so_far.is_first (own_parameters declarator.layers) room said.is_static name of declarator.parts ahead) after rest (
+    fits_stops said declarator (λ fits. pure_ahead (is_virtual_member label.is_virtual said of) >>= λ b. ask (declare_member (words_of_member label said of b) (own_parameters declarator.layers) name of) >>= behind_member b so_far.is_first (own_parameters declarator.layers) room said.is_static name of declarator.parts ahead) after rest (
     member_with_stops room label said so_far state ahead declarator after rest is_pure gives plain later stands))
 
 declared_member_stops : (room : ℕ) (label : Labelled) (said : Said) (so_far : Listed) (state : CxxState) (ahead : Ahead) (declarator : Declarator) (after : CxxState) (rest : Ahead) → declarator_of room naming.Required state ahead ≡ Ok (record { value = declarator; state = after; rest = rest }) → IsLater state after → EndsIn ahead.tokens rest.tokens
     → Inside (some_member_declarators room label said so_far) state ahead (declared_member room label said so_far.is_first declarator ahead after rest)
 unfolding declared_member
 declared_member_stops room label said so_far state ahead declarator after rest gives later stands =
-    which_in said.is_typedef (λ synonym. calm_from later stands (then_in later_is_quiet (synonym_member_tells said declarator ahead after rest) alone_tells)) (λ plain. data_member_stops room label said so_far state ahead declarator after rest gives plain later stands)
+    which_in said.is_typedef (λ synonym. calm_from later stands (synonym_member_tells said declarator ahead after rest)) (λ plain. data_member_stops room label said so_far state ahead declarator after rest gives plain later stands)
 
 named_member_stops : (room : ℕ) (label : Labelled) (said : Said) (so_far : Listed) (state : CxxState) (ahead : Ahead) → Inside (some_member_declarators room label said so_far) state ahead (named_member_at room label said so_far.is_first state ahead)
 unfolding named_member_at
@@ -303,13 +304,14 @@ no_anonymous_tells head state ahead = if_in (head.is_union && (is_none head.name
 
 -- behind them the reader stands where it did
 abbrev behind_members : Specifiers → Head → ℕ → Ahead → List CxxTree → Reads CxxState Specifiers
-behind_members so_far head number from members = ask (end_class number head.place) >>= λ ended. no_anonymous_union head >>= λ whole. looked >>= λ to. give (with_class so_far number (class_tree head number members from to))
+behind_members so_far head number from members = ask (end_class number head.place) >>= λ ended. no_anonymous_union head >>= λ whole. defaults_kept None None >>= λ left. looked >>= λ to. give (with_class so_far number (class_tree head number (members ++ left) from to))
 
 class_ends : (room : ℕ) (so_far : Specifiers) (head : Head) (number : ℕ) (state opened : CxxState) (ahead rest : Ahead) → InSpace state opened → EndsIn ahead.tokens rest.tokens → {r : Answer (Got CxxState (List CxxTree))} → InsideClass room so_far state ahead opened rest r → Inside (a_class room so_far) state ahead (then_read r (behind_members so_far head number ahead))
 class_ends room so_far head number state opened ahead rest is stands (read_inside one later ends) =
     calm (then_in later_is_quiet (ask_from one.rest (ends_later ahead.tokens rest.tokens one.rest.tokens stands ends) (end_tells state opened one.state ahead number head.place is later)) (λ ended state after.
     then_in later_is_quiet (no_anonymous_tells head state after) (λ whole state after.
-    then_in later_is_quiet (looked_in later_is_quiet state after) (λ to. give_in later_is_quiet (with_class so_far number (class_tree head number one.value ahead to))))))
+    then_in later_is_quiet (kept_tells None None state after) (λ left state after.
+    then_in later_is_quiet (looked_in later_is_quiet state after) (λ to. give_in later_is_quiet (with_class so_far number (class_tree head number (one.value ++ left) ahead to)))))))
 class_ends room so_far head number state opened ahead rest is stands (stopped_inside why told) = tells_stop why told
 
 -- behind the bases

@@ -9,7 +9,7 @@ use Rattle.cxx_model.specs.declared.token.TokenKind.TheVariants.{Keyword}
 use Rattle.cxx_model.specs.Stops.{Stopped}
 use Rattle.cxx_model.specs.Text.Lexemes.{Lexeme}
 use Rattle.cxx_model.specs.Types.Trees.{CxxType}
-use Rattle.cxx_language.specs.Later.{Declares, alone, ended_behind, ended_by}
+use Rattle.cxx_language.specs.Later.{Declares, alone, ended_behind, ended_by, with_defaults}
 use Rattle.cxx_reading.specs.Declarators.{Declarator, declared_type, Specifiers, is_reference, own_parameters}
 use Rattle.cxx_reading.specs.Reads.{Ahead, More, Done, give, count_ahead, kind_ahead, word_ahead, behind}
 use Rattle.cxx_reading.specs.State.{CxxState}
@@ -99,4 +99,4 @@ ended_behind_tells so_far tree [] = declarator_ended_tells so_far tree
 ended_behind_tells so_far tree (body ∷ others) = give_in later_is_quiet _
 
 pub ended_by_tells : (so_far : Listed) (one : Declares) → Tells IsLater Quietly (ended_by so_far one)
-ended_by_tells so_far one = ended_behind_tells so_far one.tree one.body
+ended_by_tells so_far one = ended_behind_tells (with_defaults so_far one.defaults) one.tree one.body

@@ -1,48 +1,30 @@
--- Where the reading of a class stops that stands in no other one, with the bodies of the functions in it (9.2).
-use Rattle.std.proofs.Common.{◌≡◌, ◌<◌, refl}
-use Rattle.std.specs.Prelude.{ℕ, Bool, true, false, nat_eq, nat_lt, if◌then◌else◌, List, [], ◌∷◌, ◌++◌}
+-- Where the reading of a class stops that stands in no other one, with the default arguments and the bodies of the functions in
+-- it (9.2).
+use Rattle.std.proofs.Common.{◌≡◌}
+use Rattle.std.specs.Prelude.{ℕ, Bool, false, nat_lt, List, [], ◌∷◌, ◌++◌}
 use Rattle.std.proofs.lemmas.Bool.{ltb-true}
 use Rattle.cxx_model.specs.Stops.{Answer}
 use Rattle.cxx_reading.specs.declared.specifier.SpecifierPlace.TheVariants as where_
 use Rattle.cxx_reading.specs.Declarators.{Specifiers, has_type}
 use Rattle.cxx_reading.specs.Declaring.{scope_count}
-use Rattle.cxx_reading.specs.Reads.{Ahead, Got, Reads, More, Done, then_read, give, got, count_ahead}
+use Rattle.cxx_reading.specs.Reads.{Ahead, Got, then_read, got}
 use Rattle.cxx_reading.specs.State.{CxxState}
-use Rattle.cxx_reading.specs.Tokens.{refused}
 use Rattle.cxx_reading.specs.Trees.{CxxTree, in_turn}
 use Rattle.cxx_language.specs.Classes.{class_at, class_or_not, class_whole, declaration_specifiers, with_parts}
 use Rattle.cxx_language.specs.Later.{all_read, body_read, definition_tree, each_read, list_there, waiting_read}
-use Rattle.cxx_later.specs.Passing.{ends_where, forward_step, forward_to}
+use Rattle.cxx_later.specs.Defaults.{defaults_in}
 use Rattle.cxx_later.specs.Waiting.{Waiting, name_declared, waiting_in}
-use Rattle.cxx_language_laws.specs.Stopping.{Gives, Part, a_simple_declaration, behind_class, further_specifiers_of, in_specifiers, next_body, some_bodies, specifiers_of, to_bodies, to_class, to_later_body}
+use Rattle.cxx_language_laws.specs.Stopping.{Gives, Part, a_simple_declaration, behind_class, further_specifiers_of, in_specifiers, next_body, some_bodies, specifiers_of, to_bodies, to_class, to_defaults, to_later_body}
 use Rattle.cxx_language_laws.specs.Told.{EndsIn}
 use Rattle.cxx_language_laws.proofs.BodiesStop.{function_body_stops}
 use Rattle.cxx_language_laws.proofs.ClassStops.{class_stops, further_stop}
 use Rattle.cxx_language_laws.proofs.DeclaratorsStop.{specifiers_stop}
 use Rattle.cxx_language_laws.proofs.Later.{IsLater, later_is_quiet}
-use Rattle.cxx_language_laws.proofs.Stopping.{Inside, Stops, calm, calm_from, later_is_held, leads_here, leads_in, quiet_held, then_calm, which_in, whole_calm, whole_stops}
-use Rattle.cxx_language_laws.proofs.Tells.{Quietly, Tells, give_in, if_in, looked_in, next_in, quiet_in, repeat_tells, same_in, tells_read, tells_stop, then_from, then_in}
-
--- ---- going on
-
-forward_step_tells : (n : ℕ) (so_far : Unit {0}) → Tells IsLater Quietly (forward_step n so_far)
-unfolding forward_step
-forward_step_tells n so_far state ahead = if_in (nat_eq (count_ahead ahead) n) (same_in later_is_quiet (Done tt) state ahead) (next_in later_is_quiet (More tt) state ahead)
-
-forward_tells : (n : ℕ) → Tells IsLater Quietly (forward_to n)
-unfolding forward_to
-forward_tells n state ahead = repeat_tells later_is_quiet (forward_step n) give (forward_step_tells n) (λ so_far state ahead. same_in later_is_quiet _ state _) _ _ state _
-
-ends_tells : (n : ℕ) → Tells IsLater Quietly (ends_where n)
-unfolding ends_where
-ends_tells n state ahead = if_in (nat_eq (count_ahead ahead) n) (same_in later_is_quiet tt state ahead) (quiet_in later_is_quiet refl)
+use Rattle.cxx_language_laws.proofs.LaterDefaults.{defaults_stop, ends_tells, forward_tells, when_there}
+use Rattle.cxx_language_laws.proofs.Stopping.{Inside, Stops, calm, calm_from, later_is_held, leads_here, leads_in, then_calm, which_in, whole_calm, whole_stops}
+use Rattle.cxx_language_laws.proofs.Tells.{give_in, looked_in, same_in, tells_read, tells_stop, then_from, then_in}
 
 -- ---- one body
-
--- what follows a test that something is there
-when_there : {B : Type 0} {part : Part} {state : CxxState} {ahead : Ahead} (b : Bool) (go : Unit {0} → Reads CxxState B) (after : CxxState) (rest : Ahead) → (b ≡ true → Inside part state ahead (go tt after rest)) → Inside part state ahead (then_read (if b then got tt after rest else refused after rest) go)
-when_there true go after rest next = next refl
-when_there false go after rest next = quiet_held refl
 
 waiting_stops : (one : Waiting) (others : List Waiting) (so_far : List CxxTree) (state : CxxState) (ahead : Ahead) → Inside (some_bodies (one ∷ others) so_far) state ahead (waiting_read one state ahead)
 unfolding waiting_read body_read list_there
@@ -64,17 +46,25 @@ each_stops (one ∷ others) so_far state ahead =
 -- ---- the whole
 
 -- the reader stands behind the class again
-returned : {part : Part} {state : CxxState} {ahead : Ahead} (more : Specifiers) (to : Ahead) → EndsIn ahead.tokens to.tokens → {r : Answer (Got CxxState (List CxxTree))} → Inside part state ahead r
-    → Inside part state ahead (then_read (then_read r (λ bodies. λ (s : CxxState) (a : Ahead). got bodies s to)) (λ bodies. give (with_parts more bodies)))
-returned more to stands (tells_read one later ends) = tells_read (record { value = with_parts more one.value; state = one.state; rest = to }) later stands
-returned more to stands (tells_stop why told) = tells_stop why told
+returned : {part : Part} {state : CxxState} {ahead : Ahead} (to : Ahead) → EndsIn ahead.tokens to.tokens → {r : Answer (Got CxxState (List CxxTree))} → Inside part state ahead r
+    → Inside part state ahead (then_read r (λ bodies. λ (s : CxxState) (a : Ahead). got bodies s to))
+returned to stands (tells_read one later ends) = tells_read (record { value = one.value; state = one.state; rest = to }) later stands
+returned to stands (tells_stop why told) = tells_stop why told
+
+-- the default arguments in it, from where it began, and then the bodies, from there again
+all_stop : (room : ℕ) (as_extern : Bool) (specifiers one : Specifiers) (state between whole : CxxState) (ahead middle rest : Ahead) → Gives (specifiers_of room where_.Declaration) state ahead specifiers between middle → has_type specifiers ≡ false → Gives (class_at room specifiers) between middle one whole rest
+    → IsLater state whole → EndsIn ahead.tokens middle.tokens → EndsIn ahead.tokens rest.tokens → Inside (a_simple_declaration room as_extern) state ahead (all_read middle rest (defaults_in (in_turn one.parts)) (waiting_in room (in_turn one.parts)) whole rest)
+unfolding all_read
+all_stop room as_extern specifiers one state between whole ahead middle rest is untyped is_class later stands ends =
+    then_from _ (leads_in (to_defaults is untyped is_class) later stands (defaults_stop (defaults_in (in_turn one.parts)) whole middle)) (λ read were_read more further.
+    returned rest ends (leads_in (to_bodies is untyped is_class were_read) more stands (each_stops (waiting_in room (in_turn one.parts)) [] read.state middle)))
 
 class_whole_stops : (room : ℕ) (as_extern : Bool) (specifiers : Specifiers) (state between : CxxState) (ahead middle : Ahead) → Gives (specifiers_of room where_.Declaration) state ahead specifiers between middle → has_type specifiers ≡ false → IsLater state between → EndsIn ahead.tokens middle.tokens
     → Inside (a_simple_declaration room as_extern) state ahead (class_whole room specifiers between middle)
-unfolding class_whole all_read
+unfolding class_whole
 class_whole_stops room as_extern specifiers state between ahead middle is untyped later stands =
     then_from _ (leads_in (to_class is untyped) later stands (class_stops room specifiers between middle)) (λ one is_class further ends.
-    returned one.value one.rest ends (leads_in (to_bodies is untyped is_class) further stands (each_stops (waiting_in room (in_turn one.value.parts)) [] one.state middle)))
+    then_calm (all_stop room as_extern specifiers one.value state between one.state ahead middle one.rest is untyped is_class further stands ends) (λ bodies. give_in later_is_quiet (with_parts one.value bodies)))
 
 -- ---- the specifiers of a declaration of a namespace
 

@@ -27,6 +27,7 @@ pub mod Regions
 pub mod Lists
 pub mod CallsTell
 pub mod TellsValues
+pub mod TellsPassing
 pub mod TellsDefaults
 pub mod Classed
 pub mod Asked
@@ -46,6 +47,7 @@ pub mod Bases
 pub mod ClassBegins
 pub mod ClassStops
 pub mod BodiesStop
+pub mod LaterDefaults
 pub mod LaterBodies
 pub mod Declarations
 pub mod Whole

@@ -6,8 +6,9 @@ use Rattle.cxx_model.specs.Stops.{Answer, Stopped}
 use Rattle.cxx_model.specs.Types.Trees.{CxxType}
 use Rattle.cxx_reading.specs.Reads.{Ahead, Asks}
 use Rattle.cxx_reading.specs.State.{CxxState}
-use Rattle.cxx_reading.specs.Trees.{CxxPath}
+use Rattle.cxx_reading.specs.Trees.{CxxPath, CxxPathPart}
 use Rattle.cxx_expr.specs.Asking.{then_asked}
+use Rattle.cxx_expr.specs.Calls.{name_alone}
 use Rattle.cxx_expr.specs.Questions.{Questions}
 use Rattle.cxx_language_laws.proofs.Tells.{IsTold, IsQuiet, ToldBy, tells_answer, tells_refusal, Answers, whole_stands}
 
@@ -15,6 +16,8 @@ use Rattle.cxx_language_laws.proofs.Tells.{IsTold, IsQuiet, ToldBy, tells_answer
 pub record QuestionsTell (kept : CxxState → CxxState → Type 0) (told : CxxState → Ahead → Stopped → Type 0) (q : Questions) : Type 0 where
   pub bound : (place : Place) (target : ℕ) → Answers kept told (q.bound place target)
   pub size : (of : CxxType) → Answers kept told (q.size of)
+  -- 8.3.6: the default arguments of a call of a member, by its name alone
+  pub alone : (part : CxxPathPart) (function index : ℕ) → Answers kept told (q.fallback (name_alone part) function index)
 
 -- the default arguments of a call by a name (8.3.6)
 pub record DefaultsTell (kept : CxxState → CxxState → Type 0) (told : CxxState → Ahead → Stopped → Type 0) (q : Questions) (path : CxxPath) : Type 0 where

@@ -1,6 +1,6 @@
 -- What members of objects and calls of them keep of the state, and what stops them (5.2.5, 5.2.2).
 use Rattle.std.proofs.Common.{◌≡◌, refl}
-use Rattle.std.specs.Prelude.{ℕ, Bool, true, false, List, [], ◌∷◌, Option, Some, None, Ok, Err}
+use Rattle.std.specs.Prelude.{ℕ, zero, suc, ◌+◌, ◌-◌, Bool, true, false, List, [], ◌∷◌, ◌++◌, length, Option, Some, None, Ok, Err}
 use Rattle.cxx_model.specs.declared.place.Place.{Place}
 use Rattle.cxx_model.specs.declared.punct.TheConstants as punct
 use Rattle.cxx_model.specs.Facts.Declarations as facts
@@ -15,15 +15,15 @@ use Rattle.cxx_reading.specs.Initializers.{operand_of}
 use Rattle.cxx_reading.specs.Reads.{Ahead}
 use Rattle.cxx_reading.specs.Seen.{Numbered}
 use Rattle.cxx_reading.specs.State.{CxxState}
-use Rattle.cxx_reading.specs.Trees.{CxxPathPart, CxxTree, Label, children_of}
+use Rattle.cxx_reading.specs.Trees.{CxxPath, CxxPathPart, CxxTree, Label, children_of}
 use Rattle.cxx_expr.specs.Converting.{convert_each}
-use Rattle.cxx_expr.specs.Calls.{base_converted, base_declaring, base_of_object, base_reference, based, based_by, based_over, callee_as, callee_over, member_call, member_call_tree, member_among, member_chosen, member_converted, member_function_call, member_in, member_of, member_question, member_typed, object_called}
+use Rattle.cxx_expr.specs.Calls.{base_converted, base_declaring, base_of_object, base_reference, based, based_by, based_over, callee_as, callee_over, fallback_more, fallbacks, member_call, member_call_tree, member_among, member_chosen, member_converted, member_filled, member_function_call, member_in, member_of, member_question, member_typed, name_alone, object_called}
 use Rattle.cxx_expr.specs.Members.{arrow_of, class_of_object, function_tree, is_called, means_data, pointed, selected_among, selected_as_meant, selected_by, selected_first, selected_from, selected_function, selected_in, selected_noted, selected_of, selected_tree, selected_value}
 use Rattle.cxx_expr.specs.Names.{Means, is_function_at, means_enumerator, means_object, path_in, values_among, word_in}
 use Rattle.cxx_expr.specs.Operands.{built_operand, is_of_class, object_operand, only}
 use Rattle.cxx_expr.specs.Operators.{meaning_at, with_meaning}
 use Rattle.cxx_expr.specs.Questions.{CxxChosen, Questions}
-use Rattle.cxx_language_laws.proofs.QuestionsTell.{QuestionsTell, quiet_by, same_by, if_by, then_by, then_by_from, from_by, give_by}
+use Rattle.cxx_language_laws.proofs.QuestionsTell.{DefaultsTell, QuestionsTell, quiet_by, same_by, if_by, then_by, then_by_from, from_by, give_by}
 use Rattle.cxx_language_laws.proofs.Tells.{IsTold, ToldBy, tells_refusal, Answers}
 use Rattle.cxx_language_laws.proofs.TellsConversions.{convert_each_tells, convert_tells}
 use Rattle.cxx_language_laws.proofs.TellsOperators.{misshapen_tells}
@@ -95,11 +95,30 @@ arrow_of_tells {kept = kept} {told = told} is {q = q} asks tree one state ahead 
     by (Ok None) e = quiet_by is refl
     by (Err class) e = quiet_by is refl
 
+-- ---- default arguments (8.3.6)
+
+fallback_more_tells : {kept : CxxState → CxxState → Type 0} {told : CxxState → Ahead → Stopped → Type 0} → IsTold kept told → {q : Questions} → {path : CxxPath} → DefaultsTell kept told q path → (target index : ℕ) (done : List CxxTree) → Answers kept told (fallback_more q path target index done)
+unfolding fallback_more
+fallback_more_tells is asks target index done state ahead = then_by is (asks.fallback target index state ahead) (λ next. give_by is (done ++ next ∷ []))
+
+pub fallbacks_tell : {kept : CxxState → CxxState → Type 0} {told : CxxState → Ahead → Stopped → Type 0} → IsTold kept told → {q : Questions} → {path : CxxPath} → DefaultsTell kept told q path → (target index : ℕ) (done : List CxxTree) (count : ℕ) → Answers kept told (fallbacks q path target index done count)
+unfolding fallbacks
+fallbacks_tell is asks target index done zero state ahead = give_by is done state ahead
+fallbacks_tell is asks target index done (suc count) state ahead = then_by is (fallback_more_tells is asks target index done state ahead) (λ more. fallbacks_tell is asks target (index + 1) more count)
+
 -- ---- a call of a member (13.3.1.1.1)
 
-member_converted_tells : {kept : CxxState → CxxState → Type 0} {told : CxxState → Ahead → Stopped → Type 0} → IsTold kept told → (q : Questions) (tree : CxxTree) (place : Place) (callee : CxxTree) (arguments : List CxxTree) (chosen : CxxChosen) → Answers kept told (member_converted q tree place callee arguments chosen)
+-- those that are asked for by the name alone
+alone_tells : {kept : CxxState → CxxState → Type 0} {told : CxxState → Ahead → Stopped → Type 0} {q : Questions} → QuestionsTell kept told q → (part : CxxPathPart) → DefaultsTell kept told q (name_alone part)
+alone_tells asks part = record { fallback = asks.alone part }
+
+member_filled_tells : {kept : CxxState → CxxState → Type 0} {told : CxxState → Ahead → Stopped → Type 0} → IsTold kept told → {q : Questions} → QuestionsTell kept told q → (tree : CxxTree) (place : Place) (part : CxxPathPart) (count : ℕ) (chosen : CxxChosen) (parts : List CxxTree) → Answers kept told (member_filled q tree place (name_alone part) count chosen parts)
+unfolding member_filled
+member_filled_tells is asks tree place part count chosen parts state ahead = then_by is (fallbacks_tell is (alone_tells asks part) chosen.target count parts (length chosen.parameters - count) state ahead) (λ all. give_by is (member_call_tree tree place chosen all))
+
+member_converted_tells : {kept : CxxState → CxxState → Type 0} {told : CxxState → Ahead → Stopped → Type 0} → IsTold kept told → {q : Questions} → QuestionsTell kept told q → (tree : CxxTree) (place : Place) (part : CxxPathPart) (callee : CxxTree) (arguments : List CxxTree) (chosen : CxxChosen) → Answers kept told (member_converted q tree place (name_alone part) callee arguments chosen)
 unfolding member_converted
-member_converted_tells is q tree place callee arguments chosen state ahead = then_by is (convert_each_tells is q place chosen.parameters (callee ∷ []) arguments state ahead) (λ parts. give_by is (member_call_tree tree place chosen parts))
+member_converted_tells is {q = q} asks tree place part callee arguments chosen state ahead = then_by is (convert_each_tells is q place chosen.parameters (callee ∷ []) arguments state ahead) (member_filled_tells is asks tree place part (length arguments) chosen)
 
 -- a function of a base (10.2)
 base_converted_tells : {kept : CxxState → CxxState → Type 0} {told : CxxState → Ahead → Stopped → Type 0} → IsTold kept told → (q : Questions) (callee : CxxTree) (of base : CxxType) (object : CxxTree) → Answers kept told (base_converted q callee of base object)
@@ -126,7 +145,7 @@ unfolding member_chosen
 member_chosen_tells is {q = q} asks tree callee of arguments chosen state ahead =
     then_by is (asks.bound (word_in callee.label).place chosen.target state ahead) (λ noted state ahead.
     then_by is (based_tells is q callee of chosen.target state ahead) (λ over state ahead.
-    member_converted_tells is q tree (word_in over.label).place (callee_as over chosen state) arguments chosen state ahead))
+    member_converted_tells is asks tree (word_in over.label).place (word_in over.label) (callee_as over chosen state) arguments chosen state ahead))
 
 -- what is known of the answer to the question of the members with the name that is called, and to that of which is meant
 pub record FunctionsTell (kept : CxxState → CxxState → Type 0) (told : CxxState → Ahead → Stopped → Type 0) (q : Questions) (callee : Label) (of : CxxType) (class : ℕ) (arguments : List CxxTree) (state : CxxState) (ahead : Ahead) : Type 0 where

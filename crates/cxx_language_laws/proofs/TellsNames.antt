@@ -1,6 +1,6 @@
 -- What names and calls keep of the state, and what stops them.
 use Rattle.std.proofs.Common.{◌≡◌, refl, sym, ap, subst, ◌∙◌}
-use Rattle.std.specs.Prelude.{Bool, true, false, if◌then◌else◌, ℕ, zero, suc, ◌+◌, ◌-◌, List, [], ◌∷◌, ◌++◌, length, Option, Some, None, Ok, Err}
+use Rattle.std.specs.Prelude.{Bool, true, false, if◌then◌else◌, ℕ, ◌-◌, List, [], ◌∷◌, length, Option, Some, None, Ok, Err}
 use Rattle.cxx_model.specs.declared.facts.MemberKind.{MemberKind}
 use Rattle.cxx_model.specs.declared.place.Place.{Place}
 use Rattle.cxx_model.specs.Facts.Declarations as facts
@@ -14,8 +14,8 @@ use Rattle.cxx_meaning.specs.Lookups.Wanted.{is_function}
 use Rattle.cxx_reading.specs.Reads.{Ahead}
 use Rattle.cxx_reading.specs.Seen.{Numbered}
 use Rattle.cxx_reading.specs.State.{CxxState}
-use Rattle.cxx_reading.specs.Trees.{CxxPath, CxxPathPart, CxxTree, Label, is_plain_path, tree_of}
-use Rattle.cxx_expr.specs.Calls.{class_called, functions_called, implied_call, implied_callee, implied_chosen, implied_member, implied_question, implied_type, fallback_more, fallbacks, chosen_as, chosen_tree, chosen_call, is_bare, question, function_call, Signature, fits_count, through_tree, through_signature, through_counted, no_callee, through_by, signature_by, through, called_label, without_name, value_call, is_asked_for, called_first, called, name_call}
+use Rattle.cxx_reading.specs.Trees.{CxxPathPart, CxxTree, Label, is_plain_path, tree_of}
+use Rattle.cxx_expr.specs.Calls.{class_called, functions_called, implied_call, implied_callee, implied_chosen, implied_member, implied_question, implied_type, chosen_as, chosen_tree, chosen_call, is_bare, question, function_call, Signature, fits_count, through_tree, through_signature, through_counted, no_callee, through_by, signature_by, through, called_label, without_name, value_call, is_asked_for, called_first, called, name_call}
 use Rattle.cxx_expr.specs.Implied.{member_label, member_named, named_by, named_here, object_for, object_of_first, object_tree}
 use Rattle.cxx_expr.specs.Names.{Means, are_one_function, is_nonstatic, means_enumerator, means_first, means_function, means_object, means_object_by, means_value, meant_by, named, named_tree, path_in, static_class, values_among, word_in}
 use Rattle.cxx_expr.specs.Operands.{is_none, is_of_class, object_operand}
@@ -25,7 +25,7 @@ use Rattle.cxx_meaning.specs.Conversions.BuiltIn.{operand_kind}
 use Rattle.cxx_language_laws.proofs.QuestionsTell.{DefaultsTell, QuestionsTell, quiet_by, same_by, if_by, when_by, then_by, then_by_from, from_by, give_by}
 use Rattle.cxx_language_laws.proofs.Tells.{IsTold, IsQuiet, ToldBy, tells_refusal, Answers}
 use Rattle.cxx_language_laws.proofs.TellsConversions.{convert_each_tells}
-use Rattle.cxx_language_laws.proofs.TellsMembers.{member_chosen_tells, selected_among_tells}
+use Rattle.cxx_language_laws.proofs.TellsMembers.{fallbacks_tell, member_chosen_tells, selected_among_tells}
 
 -- ---- names
 
@@ -92,15 +92,6 @@ unfolding through
 through_tells is q tree callee arguments = through_by_tells is q tree callee arguments (signature_by (operand_kind (operand_of callee)))
 
 -- ---- what is called by its name
-
-fallback_more_tells : {kept : CxxState → CxxState → Type 0} {told : CxxState → Ahead → Stopped → Type 0} → IsTold kept told → {q : Questions} → {path : CxxPath} → DefaultsTell kept told q path → (target index : ℕ) (done : List CxxTree) → Answers kept told (fallback_more q path target index done)
-unfolding fallback_more
-fallback_more_tells is asks target index done state ahead = then_by is (asks.fallback target index state ahead) (λ next. give_by is (done ++ next ∷ []))
-
-fallbacks_tell : {kept : CxxState → CxxState → Type 0} {told : CxxState → Ahead → Stopped → Type 0} → IsTold kept told → {q : Questions} → {path : CxxPath} → DefaultsTell kept told q path → (target index : ℕ) (done : List CxxTree) (count : ℕ) → Answers kept told (fallbacks q path target index done count)
-unfolding fallbacks
-fallbacks_tell is asks target index done zero state ahead = give_by is done state ahead
-fallbacks_tell is asks target index done (suc count) state ahead = then_by is (fallback_more_tells is asks target index done state ahead) (λ more. fallbacks_tell is asks target (index + 1) more count)
 
 chosen_as_tells : {kept : CxxState → CxxState → Type 0} {told : CxxState → Ahead → Stopped → Type 0} → IsTold kept told → (tree : CxxTree) (chosen : CxxChosen) (arguments : List CxxTree) → Answers kept told (chosen_as tree chosen arguments)
 chosen_as_tells is tree chosen arguments state ahead = same_by is (chosen_tree tree chosen (static_class state.graph chosen.target) arguments) state ahead

@@ -28,11 +28,13 @@ use Rattle.cxx_reading.specs.Units.{Said, Listed, give_trees, inside_step, linka
 use Rattle.cxx_language.specs.Blocks.{condition_part, declared_condition_at, local_declaration_at, local_step}
 use Rattle.cxx_language.specs.Bodies.{result_of}
 use Rattle.cxx_language.specs.Classes.{BaseList, Head as ClassHead, Labelled, Members, base_list, bases_in, bases_or_none, begins_virtual, behind_bases, behind_virtual, class_at, class_begins, class_whole, declaration_specifiers, give_members, head_at, labelled, list_step, member_declaration_at, member_specifiers, member_step, type_of_member, words_of_member}
-use Rattle.cxx_language.specs.Later.{each_read, waiting_read}
+use Rattle.cxx_language.specs.Later.{defaults_read, each_read, later_read, waiting_read}
+use Rattle.cxx_later.specs.Defaults.{LaterDefault, defaults_in, defaults_kept}
 use Rattle.cxx_later.specs.Passing.{forward_to}
 use Rattle.cxx_later.specs.Waiting.{Waiting, name_declared, waiting_in}
 use Rattle.cxx_language.specs.Objects.{begins_initializer, initialized_part}
 use Rattle.cxx_heads.specs.Heads.{is_declared_condition}
+use Rattle.cxx_phrases.specs.Levels.{assignment_at}
 use Rattle.cxx_statements.specs.declared.parts.Head.{Head}
 use Rattle.cxx_statements.specs.declared.parts.Head.TheVariants as head
 use Rattle.cxx_statements.specs.declared.parts.Purpose.{Purpose}
@@ -43,7 +45,9 @@ use Rattle.cxx_language.specs.Statements.{expression_for, parts_at, statement_he
 use Rattle.cxx_language.specs.Spaces.{alias_at, namespace_at, using_at}
 use Rattle.cxx_language.specs.Units.{declaration_at, declarator_step, function_declared, linkage_opened, simple_declaration_at}
 use Rattle.cxx_language.specs.Values.{constant_part, has_value}
+use Rattle.cxx_answers.specs.Defaults.{begin_later}
 use Rattle.cxx_declare.specs.ClassDefinitions.{declare_member}
+use Rattle.cxx_declare.specs.Outside.{stand_in}
 
 -- a reader reads a value from a state with these tokens ahead, to another
 abbrev pub Gives : {S A : Type 0} → Reads S A → S → Ahead → A → S → Ahead → Type 0
@@ -64,6 +68,10 @@ declarator_of room naming = declarator_at (asked room).kinds (inner_at room).typ
 -- 8.5: the initializer of an object that has this name, this type and this declaration
 abbrev pub initializer_of : ℕ → Lexeme → CxxType → ℕ → Reads CxxState (List CxxTree)
 initializer_of room name of number = initialized_part answers (phrases_at room) (inner_at room).phrases name of number
+
+-- 8.3.6: a default argument, behind its `=`
+abbrev pub default_of : ℕ → Reads CxxState CxxTree
+default_of room = assignment_at (phrases_at room) (inner_at room).phrases
 
 -- 6.4: the initializer of an object that a condition declares
 abbrev pub condition_initializer_of : ℕ → Lexeme → CxxType → ℕ → Reads CxxState (List CxxTree)
@@ -125,6 +133,10 @@ pub data Part : Type 0 where
   some_member_declarators : ℕ → Labelled → Said → Listed → Part
   -- 9.4.2: the value of a static constant in its class, from its `=` on
   a_member_value : ℕ → Lexeme → CxxType → ℕ → Part
+  -- 8.3.6, 9.2: the default arguments of the functions in a class, where it has ended
+  some_defaults : List LaterDefault → Part
+  -- 8.3.6: one of them, behind its `=`
+  a_default : ℕ → Part
   -- 9.2: the bodies of the functions in a class, where it has ended
   some_bodies : List Waiting → List CxxTree → Part
   -- 7.1: the specifiers behind a class that is defined among them
@@ -165,6 +177,7 @@ IsInnermost (some_bases of) = Unit {0}
 IsInnermost (some_further_specifiers room place so_far) = Unit {0}
 IsInnermost (a_declarator room naming) = Unit {0}
 IsInnermost (a_member_value room name of number) = Unit {0}
+IsInnermost (a_default room) = Unit {0}
 IsInnermost (an_initializer room name of number) = Unit {0}
 IsInnermost (an_expression room purpose.Whole) = Unit {0}
 IsInnermost (an_expression room purpose.Constant) = Unit {0}
@@ -191,6 +204,8 @@ IsStopped (some_bases of) state ahead fault = base_list of state ahead ≡ Err (
 IsStopped (some_members room name so_far) state ahead fault = IsStoppedIn (list_step room name) give_members so_far state ahead fault
 IsStopped (a_member_declaration room access) state ahead fault = member_declaration_at room access state ahead ≡ Err (Faulty fault)
 IsStopped (some_member_declarators room access said so_far) state ahead fault = IsStoppedIn (member_step room access said) give_trees so_far state ahead fault
+IsStopped (some_defaults defaults) state ahead fault = defaults_read defaults state ahead ≡ Err (Faulty fault)
+IsStopped (a_default room) state ahead fault = default_of room state ahead ≡ Err (Faulty fault)
 IsStopped (some_bodies waiting so_far) state ahead fault = each_read waiting so_far state ahead ≡ Err (Faulty fault)
 IsStopped (some_further_specifiers room place so_far) state ahead fault = further_specifiers_of room place so_far state ahead ≡ Err (Faulty fault)
 IsStopped (a_declarator room naming) state ahead fault = declarator_of room naming state ahead ≡ Err (Faulty fault)
@@ -330,9 +345,16 @@ pub data Leads : Part → CxxState → Ahead → Part → CxxState → Ahead →
       → Leads (a_simple_declaration room as_extern) state ahead (a_class room specifiers) after rest
   behind_class : {room : ℕ} {as_extern : Bool} {specifiers more : Specifiers} {state between after : CxxState} {ahead middle rest : Ahead} → Gives (specifiers_of room where_.Declaration) state ahead specifiers between middle → has_type specifiers ≡ false
       → Gives (class_whole room specifiers) between middle more after rest → Leads (a_simple_declaration room as_extern) state ahead (some_further_specifiers room where_.Declaration more) after rest
-  -- 9.2: behind it the bodies of the functions in it are read, from where it began, one after another
-  to_bodies : {room : ℕ} {as_extern : Bool} {specifiers one : Specifiers} {state between after : CxxState} {ahead middle rest : Ahead} → Gives (specifiers_of room where_.Declaration) state ahead specifiers between middle → has_type specifiers ≡ false
-      → Gives (class_at room specifiers) between middle one after rest → Leads (a_simple_declaration room as_extern) state ahead (some_bodies (waiting_in room (in_turn one.parts)) []) after middle
+  -- 8.3.6, 9.2: behind it the default arguments of the functions in it are read, from where it began, one after another
+  to_defaults : {room : ℕ} {as_extern : Bool} {specifiers one : Specifiers} {state between after : CxxState} {ahead middle rest : Ahead} → Gives (specifiers_of room where_.Declaration) state ahead specifiers between middle → has_type specifiers ≡ false
+      → Gives (class_at room specifiers) between middle one after rest → Leads (a_simple_declaration room as_extern) state ahead (some_defaults (defaults_in (in_turn one.parts))) after middle
+  next_default : {one : LaterDefault} {others : List LaterDefault} {state after : CxxState} {ahead rest : Ahead} → Gives (later_read one) state ahead tt after rest → Leads (some_defaults (one ∷ others)) state ahead (some_defaults others) after rest
+  -- where it stands, in the scope of the list of its function
+  to_later_default : {one : LaterDefault} {others : List LaterDefault} {state between : CxxState} {entered begun : Unit {0} × CxxState} {ahead rest : Ahead} → Gives (forward_to one.first) state ahead tt between rest → stand_in one.list between ≡ Ok entered → begin_later entered.1 ≡ Ok begun
+      → Leads (some_defaults (one ∷ others)) state ahead (a_default one.room) begun.1 rest
+  -- 9.2: behind them the bodies of the functions in it are read, from where it began, one after another
+  to_bodies : {room : ℕ} {as_extern : Bool} {specifiers one : Specifiers} {state between whole after : CxxState} {ahead middle end rest : Ahead} → Gives (specifiers_of room where_.Declaration) state ahead specifiers between middle → has_type specifiers ≡ false
+      → Gives (class_at room specifiers) between middle one whole end → Gives (defaults_read (defaults_in (in_turn one.parts))) whole middle tt after rest → Leads (a_simple_declaration room as_extern) state ahead (some_bodies (waiting_in room (in_turn one.parts)) []) after middle
   next_body : {one : Waiting} {others : List Waiting} {so_far : List CxxTree} {tree : CxxTree} {state after : CxxState} {ahead rest : Ahead} → Gives (waiting_read one) state ahead tree after rest
       → Leads (some_bodies (one ∷ others) so_far) state ahead (some_bodies others (so_far ++ tree ∷ [])) after rest
   to_later_body : {room : ℕ} {one : Waiting} {others : List Waiting} {so_far : List CxxTree} {state between : CxxState} {defined begun : Unit {0} × CxxState} {ahead rest : Ahead} → one.room ≡ suc room → Gives (forward_to one.first) state ahead tt between rest
@@ -356,9 +378,10 @@ pub data Leads : Part → CxxState → Ahead → Part → CxxState → Ahead →
       → Leads (some_member_declarators room label said so_far) state ahead (some_member_declarators room label said more) after rest
   in_member_declarator : {room : ℕ} {label : Labelled} {said : Said} {so_far : Listed} {state : CxxState} {ahead : Ahead} → Leads (some_member_declarators room label said so_far) state ahead (a_declarator room naming.Required) state ahead
   -- 9.4.2: the member of a whole declarator is declared, and its value is ahead
-  to_member_value : {room : ℕ} {label : Labelled} {said : Said} {so_far : Listed} {declarator : Declarator} {state between : CxxState} {answer : ℕ × CxxState} {ahead rest : Ahead} → Gives (declarator_of room naming.Required) state ahead declarator between rest
-      → said.is_typedef ≡ false → declare_member (words_of_member label said (type_of_member said declarator) false) (name_in declarator) (type_of_member said declarator) between ≡ Ok answer → has_value said.is_static (type_of_member said declarator) (kind_ahead rest) ≡ true
-      → Leads (some_member_declarators room label said so_far) state ahead (a_member_value room (name_in declarator) (type_of_member said declarator) answer.0) answer.1 rest
+  to_member_value : {room : ℕ} {label : Labelled} {said : Said} {so_far : Listed} {declarator : Declarator} {defaults : List CxxTree} {state between after : CxxState} {answer : ℕ × CxxState} {ahead rest : Ahead} → Gives (declarator_of room naming.Required) state ahead declarator between rest
+      → said.is_typedef ≡ false → declare_member (words_of_member label said (type_of_member said declarator) false) (own_parameters declarator.layers) (name_in declarator) (type_of_member said declarator) between ≡ Ok answer
+      → Gives (defaults_kept (own_parameters declarator.layers) (Some answer.0)) answer.1 rest defaults after rest → has_value said.is_static (type_of_member said declarator) (kind_ahead rest) ≡ true
+      → Leads (some_member_declarators room label said so_far) state ahead (a_member_value room (name_in declarator) (type_of_member said declarator) answer.0) after rest
   -- 8.5: the object of a whole declarator is declared, and its initializer is ahead
   to_initializer : {room number : ℕ} {said : Said} {so_far : Listed} {declarator : Declarator} {state between after : CxxState} {ahead rest : Ahead} → Gives (declarator_of room naming.Qualified) state ahead declarator between rest
       → said.is_typedef ≡ false → is_function_type (declared_type declarator.layers said.of) ≡ false → Initializes said declarator between number after → begins_initializer rest ≡ true

@@ -39,13 +39,17 @@ abbrev pub closes_by : Option ℕ → TokenKind → Bool
 closes_by None kind = false
 closes_by (Some n) kind = is_punct n kind
 
-unfoldable pub passing_step : List ℕ → Reads (Unit {0}) (Turn (List ℕ) (Unit {0}))
-passing_step closers state ahead =
+-- a token, or a bracket with what it leaves to be closed
+unfoldable pub token_passed : List ℕ → Reads (Unit {0}) (List ℕ)
+token_passed closers state ahead =
     if is_end (kind_ahead ahead) then refused state ahead else (
-    if opens (kind_ahead ahead) then got (More (closers ++ closer_of (kind_ahead ahead) ∷ [])) state (behind ahead) else (
-    if not (closes (kind_ahead ahead)) then got (More closers) state (behind ahead) else (
-    if closes_by (innermost closers) (kind_ahead ahead) then got (closed (outer closers)) state (behind ahead) else
+    if opens (kind_ahead ahead) then got (closers ++ closer_of (kind_ahead ahead) ∷ []) state (behind ahead) else (
+    if not (closes (kind_ahead ahead)) then got closers state (behind ahead) else (
+    if closes_by (innermost closers) (kind_ahead ahead) then got (outer closers) state (behind ahead) else
     refused state ahead)))
+
+unfoldable pub passing_step : List ℕ → Reads (Unit {0}) (Turn (List ℕ) (Unit {0}))
+passing_step closers = token_passed closers >>= λ left. give (closed left)
 
 abbrev pub never_closed : List ℕ → Reads (Unit {0}) (Unit {0})
 never_closed closers = refused

@@ -67,10 +67,10 @@ fn closed(closers: &[u8]) -> Turn<(), ()>
     }
 }
 
-// A token is passed; a bracket closes the last one that is open.
-#[tactic(auto, unfolding(crate::specs::Passing::passing_step))]
-fn passing_step(cursor: &mut Cursor<'_>, closers: &mut Vec<u8>) -> Result<Turn<(), ()>, Stop>
-    ensures { Takes (turn_at (λ x. closers.new.items) (λ x. x)) cursor.new result (definition.passing_step closers.old.items tt cursor.old) }
+// A token is passed, or a bracket with what it leaves to be closed.
+#[tactic(auto, unfolding(crate::specs::Passing::token_passed))]
+pub(crate) fn token_passed(cursor: &mut Cursor<'_>, closers: &mut Vec<u8>) -> Result<(), Stop>
+    ensures { Takes (λ x. closers.new.items) cursor.new result (definition.token_passed closers.old.items tt cursor.old) }
 {
     let kind = cursor.kind();
     if is_end(kind) {
@@ -79,17 +79,26 @@ fn passing_step(cursor: &mut Cursor<'_>, closers: &mut Vec<u8>) -> Result<Turn<(
     if opens(kind) {
         closers.push(closer_of(kind))?;
         cursor.advance();
-        return Ok(Turn::More(()));
+        return Ok(());
     }
     if !closes(kind) {
         cursor.advance();
-        return Ok(Turn::More(()));
+        return Ok(());
     }
     if !closed_by(kind, closers) {
         return Err(Stop::Fault(cursor.refused()?));
     }
     cursor.advance();
-    Ok(closed(closers))
+    Ok(())
+}
+
+// The next token of a body is passed.
+#[tactic(auto, unfolding(crate::specs::Passing::passing_step))]
+fn passing_step(cursor: &mut Cursor<'_>, closers: &mut Vec<u8>) -> Result<Turn<(), ()>, Stop>
+    ensures { Takes (turn_at (λ x. closers.new.items) (λ x. x)) cursor.new result (definition.passing_step closers.old.items tt cursor.old) }
+{
+    token_passed(cursor, closers)?;
+    Ok(closed(closers.as_slice()))
 }
 
 // From an opening bracket behind the one that closes it. The brackets that have to close are kept, the innermost last.

@@ -1,7 +1,6 @@
 -- A declarator that agrees in one step is read as one that agrees in two.
 use Rattle.std.specs.Prelude.{ℕ, Bool, Result}
 use Rattle.cxx_cursor.specs.Reading.{IsRead}
-use Rattle.cxx_language.specs.Later.{Declares}
 use Rattle.cxx_language.specs.Units.{init_declarator_at}
 use Rattle.cxx_model.specs.declared.stop.Stop.{Stop}
 use Rattle.cxx_reading.specs.Reads.{Ahead}

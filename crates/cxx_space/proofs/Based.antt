@@ -1,5 +1,5 @@
 -- Trees of bases.
-use Rattle.std.specs.Prelude.{ℕ, suc, ◌≡◌, length, List, [], ◌∷◌, refl}
+use Rattle.std.specs.Prelude.{suc, ◌≡◌, length, List, [], ◌∷◌, refl}
 use Rattle.std.proofs.Common.{ap}
 use Rattle.cxx_model.specs.declared.types.TreeId.{TreeId}
 use Rattle.cxx_reading.specs.Trees.{CxxTree}

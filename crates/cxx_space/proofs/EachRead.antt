@@ -1,5 +1,5 @@
 -- The bodies of a class, read one after another.
-use Rattle.std.specs.Prelude.{ℕ, zero, suc, ◌≡◌, ◌<◌, ◌≤◌, ◌+◌, length, drop, List, [], ◌∷◌, ◌++◌, Result, Ok, Err, refl}
+use Rattle.std.specs.Prelude.{ℕ, zero, suc, ◌≡◌, ◌<◌, ◌≤◌, ◌+◌, length, drop, List, [], ◌∷◌, ◌++◌, Ok, Err, refl}
 use Rattle.std.proofs.Common.{add-one, ap, arith, slice_index_or, subst, sym, ◌∙◌}
 use Rattle.std.proofs.lemmas.List.{drop_all}
 use Rattle.std.proofs.lemmas.List.Elements.{All-drop}
@@ -16,11 +16,10 @@ use Rattle.cxx_model.specs.declared.stop.Stop.{Stop}
 use Rattle.cxx_model.specs.declared.stop.Stop.TheVariants as stop
 use Rattle.cxx_model.specs.declared.types.TreeId.{TreeId}
 use Rattle.cxx_model.specs.Stops.{Answer, Stops}
-use Rattle.cxx_reading.specs.Reads.{Ahead, Got, Reads, ◌>>=◌, got, then_read}
+use Rattle.cxx_reading.specs.Reads.{Ahead, Got, Reads, then_read}
 use Rattle.cxx_reading.specs.State.{CxxState}
 use Rattle.cxx_reading.specs.Trees.{CxxTree}
 use Rattle.cxx_tree.specs.Held.{Held, meaning, tree, trees}
-use Rattle.cxx_tree.specs.Later.{Later}
 
 -- the next one, and those behind it
 each_left : (held : Held) (all : List code.Waiting) (i : ℕ) (d : code.Waiting) (so_far : List CxxTree) (s : CxxState) (a : Ahead) → i < length all

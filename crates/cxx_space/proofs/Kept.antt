@@ -3,6 +3,8 @@ use Rattle.std.specs.Prelude.{◌≡◌, ◌<◌, ◌≤◌, length, List, [], �
 use Rattle.std.proofs.Common.{ap, arith, ◌∙◌}
 use Rattle.cxx_model.specs.declared.types.TreeId.{TreeId}
 use Rattle.cxx_reading.specs.Trees.{CxxTree}
+use Rattle.cxx_cursor.specs.Views.{trees_held}
+use Rattle.cxx_cursor.proofs.Kept.{trees_kept, trees_later}
 use Rattle.cxx_space.specs.declared.bodies.Declared.{Declared}
 use Rattle.cxx_space.specs.declared.classes.Begun.{Begun}
 use Rattle.cxx_space.specs.Classes.{IsBegun}
@@ -21,11 +23,13 @@ body_later old new (Some number) later known = (let more : length (trees old) �
 pub declares_kept : (old new : Held) (one : Declared) → Later old new → IsDeclaredKnown old one → declares_of new one ≡ declares_of old one
 declares_kept old new one later known =
     (let same : tree new one.tree ≡ tree old one.tree = later.trees.same one.tree.0 known.tree in
+    let defaults : trees_held new one.defaults ≡ trees_held old one.defaults = trees_kept old new one.defaults later known.defaults in
     let body : body_of new one.body ≡ body_of old one.body = body_kept old new one.body later known.body in cc)
 
 pub declared_later : (old new : Held) (one : Declared) → Later old new → IsDeclaredKnown old one → IsDeclaredKnown new one
 declared_later old new one later known = record {
   tree = (let more : length (trees old) ≤ length (trees new) = later.trees.grows in let below : one.tree.0 < length (trees old) = known.tree in omega arith);
+  defaults = trees_later old new one.defaults later known.defaults;
   body = body_later old new one.body later known.body;
 }
 

@@ -1,5 +1,7 @@
 mod Apart
 mod Based
+mod Behind
+mod DefaultsRead
 mod EachRead
 mod Kept
 mod Listing

@@ -3,3 +3,4 @@ pub mod Parts
 pub mod Views
 pub mod Bases
 pub mod Classes
+pub mod Behind

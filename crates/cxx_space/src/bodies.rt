@@ -1,6 +1,6 @@
 //! What stands behind the declarator of a function (8.4).
 
-ghost use Rattle.std.specs.Prelude.{◌≡◌, ◌<◌, None, length};
+ghost use Rattle.std.specs.Prelude.{◌≡◌, ◌<◌, ◌++◌, [], None, length, IfOk};
 ghost use Rattle.cxx_space.specs.Parts.{body_or_not, function_end};
 ghost use Rattle.cxx_language.specs.Later as later;
 ghost use Rattle.cxx_language.specs.Units as units;
@@ -8,35 +8,56 @@ ghost use Rattle.cxx_space.specs.Views.{IsBodyKnown, IsDeclaredKnown, body_of, d
 ghost use Rattle.cxx_cursor.specs.Reading.{IsRead};
 ghost use Rattle.cxx_cursor.specs.Views.{name_at};
 ghost use Rattle.cxx_tree.specs.Answered.{scope_of_option};
-ghost use Rattle.cxx_tree.specs.Held.{meaning, type_of};
+ghost use Rattle.cxx_tree.specs.Held.{meaning, tree, trees, type_of};
 ghost use Rattle.cxx_units.specs.Said.{IsListed, IsListedTurn, listed_of, listed_turn};
 
 use crate::space::{Defines, Space};
-use cxx_cursor::{Cursor, NameToken, Turn, is_keyword, is_punct};
+use cxx_cursor::{Cursor, NameToken, Turn, is_keyword, is_punct, joined};
 use cxx_model::{
-    FactId, FaultText, LeftOut, ScopeId, Stop, TreeId, TreeIdList, TypeId, keyword, punct,
+    FactId, FaultText, LeftOut, Listed, ScopeId, Stop, TreeId, TreeIdList, TypeId, keyword, punct,
 };
 use cxx_tree::State;
 use cxx_units::declarator_ended;
 use cxx_units::ends::ends_declarator;
 use cxx_units::said::Listed as ListedTrees;
 use cxx_units::trees::with_tree;
+use std::alloc::{AllocError, Global};
 
-/// What a declarator leads to: its tree, and the body of the function that it defines.
-#[derive(Clone, Copy)]
+/// What a declarator leads to: its tree, what is kept of the default arguments that were passed over in it, and the body of the
+/// function that it defines.
+#[derive(Drop)]
 pub(crate) struct Declared {
     pub tree: TreeId,
+    pub defaults: TreeIdList,
     pub body: Option<TreeId>,
 }
 
-/// What a declarator declares that defines no function.
-pub(crate) fn alone(number: TreeId) -> Declared
-    ensures { result ≡ record { tree = number; body = None } }
+/// What a declarator leads to in which no default argument was passed over.
+pub(crate) fn declared_with(alloc: Global, number: TreeId, body: Option<TreeId>) -> Declared
+    ensures { result ≡ record { tree = number; defaults = []; body = body } }
 {
     Declared {
         tree: number,
-        body: None,
+        defaults: Listed::new(alloc),
+        body,
     }
+}
+
+/// The same where it defines no function.
+pub(crate) fn alone(alloc: Global, number: TreeId) -> Declared
+    ensures { result ≡ record { tree = number; defaults = []; body = None } }
+{
+    declared_with(alloc, number, None)
+}
+
+// What is kept of default arguments stands before the declarator.
+fn with_defaults(so_far: ListedTrees, defaults: TreeIdList) -> Result<ListedTrees, AllocError>
+    ensures { IfOk result (λ listed. listed ≡ record { trees = so_far.trees ++ defaults; is_first = so_far.is_first }) }
+{
+    Ok(ListedTrees {
+        trees: joined(so_far.trees, defaults)?,
+        is_first: so_far.is_first,
+    })
 }
 
 impl<D: Defines> Space<'_, D> {
@@ -112,7 +133,30 @@ impl<D: Defines> Space<'_, D> {
     }
 }
 
-/// Behind a body a declaration has ended; else its end or another declarator follows.
+// Behind a body a declaration has ended; else its end or another declarator follows.
+#[tactic(auto, using(cxx_cursor::proofs::Kept::trees_append, cxx_cursor::proofs::Kept::trees_below_append, cxx_cursor::proofs::Kept::later_refl))]
+fn ended_behind(
+    state: &State,
+    cursor: &mut Cursor<'_>,
+    so_far: ListedTrees,
+    number: TreeId,
+    body: Option<TreeId>,
+) -> Result<Turn<ListedTrees, TreeIdList>, Stop>
+    requires listed { IsListed state.now so_far }
+    requires number { number.0 < length (trees state.now) }
+    requires body { IsBodyKnown state.now body }
+    ensures { IsRead listed_turn IsListedTurn state.now state.now cursor.new result (later.ended_behind (listed_of state.now so_far) (tree state.now number) (body_of state.now body) (meaning state.now) cursor.old) }
+{
+    match body {
+        None => declarator_ended(state, cursor, so_far, number),
+        Some(body) => {
+            let all = with_tree(so_far.trees, number)?;
+            Ok(Turn::Done(with_tree(all, body)?))
+        }
+    }
+}
+
+/// Behind a declarator, with what it leads to: the end of its declaration, or another declarator.
 #[tactic(auto, using(cxx_cursor::proofs::Kept::trees_append, cxx_cursor::proofs::Kept::trees_below_append, cxx_cursor::proofs::Kept::later_refl))]
 pub(crate) fn ended_by(
     state: &State,
@@ -124,11 +168,6 @@ pub(crate) fn ended_by(
     requires known { IsDeclaredKnown state.now one }
     ensures { IsRead listed_turn IsListedTurn state.now state.now cursor.new result (later.ended_by (listed_of state.now so_far) (declares_of state.now one) (meaning state.now) cursor.old) }
 {
-    match one.body {
-        None => declarator_ended(state, cursor, so_far, one.tree),
-        Some(body) => {
-            let all = with_tree(so_far.trees, one.tree)?;
-            Ok(Turn::Done(with_tree(all, body)?))
-        }
-    }
+    let with = with_defaults(so_far, one.defaults)?;
+    ended_behind(state, cursor, with, one.tree, one.body)
 }

@@ -6,7 +6,7 @@ ghost use Rattle.cxx_model.specs.declared.keyword.TheConstants as key;
 ghost use Rattle.cxx_reading.specs.Reads.{behind, kind_ahead, place_ahead};
 ghost use Rattle.cxx_reading.specs.Specifiers.{path_of, path_of_option, place_or as place_or_of};
 ghost use Rattle.cxx_reading.specs.Tokens as token;
-ghost use Rattle.cxx_space.specs.Classes.{AreMembers, IsBegun, IsMembersTurn, begun_number, class_ended, class_opened, class_then, head_of, members_of, members_turn, whole_then};
+ghost use Rattle.cxx_space.specs.Classes.{AreMembers, IsBegun, IsMembersTurn, begun_number, class_ended, class_left, class_opened, class_then, head_of, members_of, members_turn, whole_then};
 ghost use Rattle.cxx_cursor.specs.Asking.{AnyKnown, IsAsked, itself};
 ghost use Rattle.cxx_cursor.specs.Making.{GrowsTree};
 ghost use Rattle.cxx_cursor.specs.Reading.{IsRead};
@@ -17,9 +17,10 @@ ghost use Rattle.cxx_tree.specs.Held.{meaning};
 
 use crate::space::{Defines, Space};
 use cxx_cursor::{
-    Cursor, Specifiers, Spelled, Turn, is_keyword, is_name, is_punct, no_specifiers_yet, node_from,
-    push,
+    Cursor, Specifiers, Spelled, Turn, is_keyword, is_name, is_punct, joined, no_specifiers_yet,
+    node_from, push,
 };
+use cxx_later::defaults_kept;
 use cxx_model::{
     Access, ClassId, FaultText, LeftOut, LimitKind, Listed, Path, PathPart, Place, Stop, Text,
     TokenKind, TreeId, TreeIdList, TypeId, Word, keyword, punct,
@@ -301,6 +302,28 @@ fn with_class(so_far: Specifiers, of: TypeId, number: TreeId) -> Result<Specifie
     Ok(so_far)
 }
 
+// Once it has ended: what was passed over in it and belongs to no declarator of a member stands behind the members.
+#[tactic(auto, using(crate::proofs::Kept::begun_later, cxx_cursor::proofs::Kept::named_kept, cxx_cursor::proofs::Kept::named_later, cxx_cursor::proofs::Kept::trees_kept, cxx_cursor::proofs::Kept::trees_later, cxx_cursor::proofs::Kept::trees_append, cxx_cursor::proofs::Kept::trees_below_append, cxx_cursor::proofs::Kept::later_refl, cxx_cursor::proofs::Kept::later_trans))]
+fn class_left(
+    state: &mut State,
+    cursor: &Cursor<'_>,
+    so_far: Specifiers,
+    head: &Head<'_>,
+    begun: Begun,
+    members: TreeIdList,
+    from: &Cursor<'_>,
+) -> Result<Specifiers, Stop>
+    requires known { AreSpecifiers state.old so_far }
+    requires begun { IsBegun state.old begun }
+    requires members { AreTreesHeld state.old members }
+    ensures { IsRead specifiers_of AreSpecifiers state.old state.new cursor.now result (class_left (head_of head.now) begun.class.0 (trees_held state.old members) (specifiers_of state.old so_far) from.now (meaning state.old) cursor.now) }
+{
+    let left = defaults_kept(state, cursor, None, None)?;
+    let all = joined(members, left)?;
+    let number = class_tree(state, head, begun, all, from, cursor)?;
+    Ok(with_class(so_far, begun.of, number)?)
+}
+
 // A union without a name that declares no object is anonymous (9.5), which is left out.
 #[tactic(auto, using(cxx_cursor::proofs::Kept::later_refl), unfolding(cxx_language::specs::Classes::no_anonymous_union))]
 fn no_anonymous_union(state: &State, cursor: &Cursor<'_>, head: &Head<'_>) -> Result<(), Stop>
@@ -436,8 +459,7 @@ impl<D: Defines> Space<'_, D> {
     {
         self.declares.end_class(state, begun.class, head.place)?;
         no_anonymous_union(state, cursor, head)?;
-        let number = class_tree(state, head, begun, members, from, cursor)?;
-        Ok(with_class(so_far, begun.of, number)?)
+        class_left(state, cursor, so_far, head, begun, members, from)
     }
 
     // From the `{` on, where it has begun and has these bases.
@@ -536,7 +558,7 @@ impl<D: Defines> Space<'_, D> {
         self.nested_or_not(state, cursor, first)
     }
 
-    // A class that stands in no other one, with the bodies of the functions in it (9.2 p2).
+    // A class that stands in no other one, with the default arguments and the bodies of the functions in it (9.2 p2).
     #[tactic(auto, using(cxx_cursor::proofs::Kept::later_refl, cxx_cursor::proofs::Kept::later_trans), unfolding(cxx_language::specs::Classes::class_whole))]
     fn class_whole(
         &self,

@@ -2,6 +2,7 @@
 
 ghost use Rattle.std.specs.Prelude.{◌≡◌, ◌<◌, length};
 ghost use Rattle.cxx_language.specs.Units as units;
+ghost use Rattle.cxx_space.specs.Behind.{stood_again};
 ghost use Rattle.cxx_space.specs.Parts.{agreed, declarator_apart, fitting_by, outside_by};
 ghost use Rattle.cxx_space.specs.Views.{IsDeclaredKnown, declares_of};
 ghost use Rattle.cxx_cursor.specs.Asking.{AnyKnown, itself};
@@ -23,9 +24,9 @@ use cxx_units::trees::token_or;
 use cxx_units::types::is_function_type;
 use cxx_units::{declared_fits, no_declarators};
 
-// The scope where the reader stands.
+/// The scope where the reader stands.
 #[tactic(auto, unfolding(cxx_tree::specs::Held::meaning))]
-fn standing(state: &State) -> ScopeId
+pub(crate) fn standing(state: &State) -> ScopeId
     ensures { result.0 ≡ (meaning state.now).here.scope }
 {
     state.scope()
@@ -129,7 +130,23 @@ impl<D: Defines> Space<'_, D> {
     }
 
     // Behind a declarator the reader stands where it stood before.
-    #[tactic(auto, using(crate::proofs::Kept::declares_kept, crate::proofs::Kept::declared_later, cxx_cursor::proofs::Kept::type_kept, cxx_cursor::proofs::Kept::type_later, cxx_cursor::proofs::Kept::later_refl, cxx_cursor::proofs::Kept::later_trans), unfolding(crate::specs::Parts::declarator_apart))]
+    fn stood_again(
+        &self,
+        state: &mut State,
+        cursor: &Cursor<'_>,
+        one: Declared,
+        outside: ScopeId,
+    ) -> Result<Declared, Stop>
+        requires { IsDeclaredKnown state.old one }
+        ensures { IsRead declares_of IsDeclaredKnown state.old state.new cursor.now result (stood_again outside.0 (declares_of state.old one) (meaning state.old) cursor.now) }
+    {
+        let _ = cursor;
+        self.declares.stand_in(state, outside)?;
+        Ok(one)
+    }
+
+    // A declarator with what stands behind it.
+    #[tactic(auto, using(cxx_cursor::proofs::Kept::type_kept, cxx_cursor::proofs::Kept::type_later, cxx_cursor::proofs::Kept::later_refl, cxx_cursor::proofs::Kept::later_trans), unfolding(crate::specs::Parts::declarator_apart))]
     fn declarator_apart(
         &self,
         state: &mut State,
@@ -147,8 +164,7 @@ impl<D: Defines> Space<'_, D> {
             .declarator(state, cursor, Naming::Qualified, self.room)?;
         declared_fits(state, cursor, said, &declarator)?;
         let one = self.declared_as(state, cursor, said, is_first, &from, declarator)?;
-        self.declares.stand_in(state, outside)?;
-        Ok(one)
+        self.stood_again(state, cursor, one, outside)
     }
 
     // The same, in the steps of its definition.

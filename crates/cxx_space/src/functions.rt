@@ -11,7 +11,7 @@ ghost use Rattle.cxx_tree.specs.Answered.{fact_number, scope_of_option};
 ghost use Rattle.cxx_tree.specs.Held.{meaning, type_of};
 ghost use Rattle.cxx_units.specs.Said.{IsDeclared, said_of};
 
-use crate::bodies::{Declared, alone};
+use crate::bodies::{Declared, alone, declared_with};
 use crate::declarators::is_in_class;
 use crate::space::{Defines, Space};
 use cxx_cursor::{Cursor, Declarator, NameToken};
@@ -72,7 +72,7 @@ impl<D: Defines> Space<'_, D> {
             cursor,
         )?;
         let body = self.function_ended(state, cursor, is_first, &name, of, number, list)?;
-        Ok(Declared { tree, body })
+        Ok(declared_with(cursor.alloc(), tree, body))
     }
 
     /// What a declarator declares; its name is declared before what follows is looked at (3.3.1).
@@ -96,16 +96,16 @@ impl<D: Defines> Space<'_, D> {
         };
         if said.is_typedef {
             let number = reader.bare_synonym(state, cursor, said, from, declarator, of)?;
-            return Ok(alone(number));
+            return Ok(alone(cursor.alloc(), number));
         }
         if is_function_type(state.types(), of) {
             return self.declared_function(state, cursor, said, is_first, from, declarator, of);
         }
         if said.is_extern {
             let number = reader.extern_object(state, cursor, said, from, declarator, of)?;
-            return Ok(alone(number));
+            return Ok(alone(cursor.alloc(), number));
         }
         let number = reader.defined_object(state, cursor, said, from, declarator, of)?;
-        Ok(alone(number))
+        Ok(alone(cursor.alloc(), number))
     }
 }

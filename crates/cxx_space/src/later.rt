@@ -1,18 +1,24 @@
-//! The bodies of functions in a class, which are read where the outermost class has ended (9.2 p2).
+//! The default arguments and the bodies of functions in a class, which are read where the outermost class has ended (9.2 p2).
 
 ghost use Rattle.std.specs.Prelude.{◌≡◌, ◌<◌, ◌++◌, [], length, IfOk};
 ghost use Rattle.cxx_language.specs.Later as definition;
+ghost use Rattle.cxx_later.specs.FoundDefaults.{AreDefaultsHeld, IsDefaultKnown, default_of, defaults_held};
 ghost use Rattle.cxx_later.specs.Views.{AreWaitingHeld, IsWaitingKnown, waiting_held, waiting_of};
-ghost use Rattle.cxx_space.specs.Classes.{bodies_then};
+ghost use Rattle.cxx_reading.specs.Reads.{Ahead};
+ghost use Rattle.cxx_space.specs.Behind.{bodies_from};
+ghost use Rattle.cxx_space.specs.Classes.{bodies_then, default_inside};
 ghost use Rattle.cxx_cursor.specs.Asking.{AnyKnown, IsTreeKnown, itself};
 ghost use Rattle.cxx_cursor.specs.Making.{GrowsTree};
 ghost use Rattle.cxx_cursor.specs.Reading.{IsRead};
 ghost use Rattle.cxx_cursor.specs.Views.{AreSpecifiers, AreTreesHeld, specifiers_of, trees_held};
 ghost use Rattle.cxx_tree.specs.Held.{meaning, tree, trees};
 
+use crate::declarators::standing;
 use crate::space::{Defines, Space};
 use cxx_cursor::{Cursor, Specifiers, joined, node_from, push};
-use cxx_later::{Waiting, all_waiting, ends_where, forward_to, name_declared};
+use cxx_later::{
+    LaterDefault, Waiting, all_defaults, all_waiting, ends_where, forward_to, name_declared,
+};
 use cxx_model::{Listed, ScopeId, Stop, Text, TreeId, TreeIdList};
 use cxx_tree::State;
 use cxx_units::trees::with_tree;
@@ -63,6 +69,78 @@ fn with_parts(so_far: Specifiers, parts: TreeIdList) -> Result<Specifiers, Alloc
 }
 
 impl<D: Defines> Space<'_, D> {
+    // ---- default arguments
+
+    // Where the reader stands in the scope of the list of a default argument; it stands where it stood before then.
+    #[tactic(auto, using(cxx_cursor::proofs::Kept::type_kept, cxx_cursor::proofs::Kept::type_later, cxx_cursor::proofs::Kept::later_refl, cxx_cursor::proofs::Kept::later_trans))]
+    fn default_inside(
+        &self,
+        state: &mut State,
+        cursor: &mut Cursor<'_>,
+        one: LaterDefault,
+        outside: ScopeId,
+    ) -> Result<(), Stop>
+        requires { IsDefaultKnown state.old one }
+        ensures { IsRead itself AnyKnown state.old state.new cursor.new result (default_inside (default_of state.old one) outside.0 (meaning state.old) cursor.old) }
+    {
+        self.declares.begin_later(state)?;
+        let number = self.declares.default_value(state, cursor, one.room)?;
+        self.declares
+            .end_later(state, one.equals, one.number, one.index, one.of, number)?;
+        self.declares.stand_in(state, outside)?;
+        ends_where(state, cursor, one.last)
+    }
+
+    // A default argument, from behind its `=` on.
+    #[tactic(auto, using(cxx_later::proofs::KeptDefaults::default_kept, cxx_later::proofs::KeptDefaults::default_later, cxx_cursor::proofs::Kept::later_refl, cxx_cursor::proofs::Kept::later_trans), unfolding(cxx_language::specs::Later::default_read))]
+    fn default_read(
+        &self,
+        state: &mut State,
+        cursor: &mut Cursor<'_>,
+        one: LaterDefault,
+    ) -> Result<(), Stop>
+        requires { IsDefaultKnown state.old one }
+        ensures { IsRead itself AnyKnown state.old state.new cursor.new result (definition.default_read (default_of state.old one) (meaning state.old) cursor.old) }
+    {
+        list_there(state, cursor, one.list)?;
+        let outside = standing(state);
+        self.declares.stand_in(state, one.list)?;
+        self.default_inside(state, cursor, one, outside)
+    }
+
+    // The next one, from where the reader stands.
+    #[tactic(auto, using(cxx_cursor::proofs::Kept::later_refl, cxx_cursor::proofs::Kept::later_trans), unfolding(cxx_language::specs::Later::later_read))]
+    fn later_read(
+        &self,
+        state: &mut State,
+        cursor: &mut Cursor<'_>,
+        one: LaterDefault,
+    ) -> Result<(), Stop>
+        requires { IsDefaultKnown state.old one }
+        ensures { IsRead itself AnyKnown state.old state.new cursor.new result (definition.later_read (default_of state.old one) (meaning state.old) cursor.old) }
+    {
+        forward_to(state, cursor, one.first)?;
+        self.default_read(state, cursor, one)
+    }
+
+    // One after another.
+    fn defaults_read(
+        &self,
+        state: &mut State,
+        cursor: &mut Cursor<'_>,
+        all: &[LaterDefault],
+    ) -> Result<(), Stop>
+        requires { AreDefaultsHeld state.old all.now }
+        ensures { IsRead itself AnyKnown state.old state.new cursor.new result (definition.defaults_read (defaults_held state.old all.now) (meaning state.old) cursor.old) }
+    {
+        for one in all {
+            self.later_read(state, cursor, *one)?;
+        }
+        Ok(())
+    }
+
+    // ---- bodies
+
     // A body, from its `{` on.
     #[tactic(auto, using(cxx_cursor::proofs::Kept::trees_kept, cxx_cursor::proofs::Kept::trees_later, cxx_expr::proofs::Kept::tree_kept, cxx_expr::proofs::Kept::tree_later, cxx_cursor::proofs::Kept::type_kept, cxx_cursor::proofs::Kept::type_later, cxx_cursor::proofs::Kept::later_refl, cxx_cursor::proofs::Kept::later_trans), unfolding(cxx_language::specs::Later::body_read))]
     fn body_read(
@@ -117,9 +195,11 @@ impl<D: Defines> Space<'_, D> {
         Ok(so_far)
     }
 
-    // Those of a class whose definition stands from one place up to another.
-    #[tactic(auto, using(cxx_cursor::proofs::Kept::later_refl, cxx_cursor::proofs::Kept::later_trans), unfolding(cxx_language::specs::Later::all_read))]
-    fn all_read(
+    // ---- all of them
+
+    // The bodies of a class whose definition stands from one place up to another.
+    #[tactic(auto, using(cxx_cursor::proofs::Kept::later_refl, cxx_cursor::proofs::Kept::later_trans))]
+    fn bodies_from(
         &self,
         state: &mut State,
         from: &Cursor<'_>,
@@ -127,14 +207,33 @@ impl<D: Defines> Space<'_, D> {
         all: &[Waiting],
     ) -> Result<TreeIdList, Stop>
         requires { AreWaitingHeld state.old all.now }
-        ensures { IsRead trees_held AreTreesHeld state.old state.new to.now result (definition.all_read from.now to.now (waiting_held state.old all.now) (meaning state.old) to.now) }
+        ensures { (ahead : Ahead) → IsRead trees_held AreTreesHeld state.old state.new to.now result (bodies_from from.now to.now (waiting_held state.old all.now) (meaning state.old) ahead) }
     {
         let _ = to;
-        let mut inside = from.mark();
-        self.each_read(state, &mut inside, all)
+        let mut again = from.mark();
+        self.each_read(state, &mut again, all)
     }
 
-    /// Behind a class that began where `from` stands: the bodies of the functions in it.
+    // Its default arguments, and then its bodies.
+    #[tactic(auto, using(cxx_later::proofs::Kept::all_waiting_kept, cxx_later::proofs::Kept::all_waiting_later, cxx_cursor::proofs::Kept::later_refl, cxx_cursor::proofs::Kept::later_trans), unfolding(cxx_language::specs::Later::all_read))]
+    fn all_read(
+        &self,
+        state: &mut State,
+        from: &Cursor<'_>,
+        to: &Cursor<'_>,
+        defaults: &[LaterDefault],
+        bodies: &[Waiting],
+    ) -> Result<TreeIdList, Stop>
+        requires defaults { AreDefaultsHeld state.old defaults.now }
+        requires bodies { AreWaitingHeld state.old bodies.now }
+        ensures { IsRead trees_held AreTreesHeld state.old state.new to.now result (definition.all_read from.now to.now (defaults_held state.old defaults.now) (waiting_held state.old bodies.now) (meaning state.old) to.now) }
+    {
+        let mut inside = from.mark();
+        self.defaults_read(state, &mut inside, defaults)?;
+        self.bodies_from(state, from, to, bodies)
+    }
+
+    /// Behind a class that began where `from` stands: the default arguments and the bodies of the functions in it.
     #[tactic(auto, using(cxx_cursor::proofs::Kept::named_kept, cxx_cursor::proofs::Kept::named_later, cxx_cursor::proofs::Kept::trees_kept, cxx_cursor::proofs::Kept::trees_later, cxx_cursor::proofs::Kept::trees_append, cxx_cursor::proofs::Kept::trees_below_append, cxx_cursor::proofs::Kept::later_refl, cxx_cursor::proofs::Kept::later_trans))]
     pub(crate) fn bodies_then(
         &self,
@@ -146,8 +245,9 @@ impl<D: Defines> Space<'_, D> {
         requires { AreSpecifiers state.old one }
         ensures { IsRead specifiers_of AreSpecifiers state.old state.new cursor.now result (bodies_then self.now.room from.now (specifiers_of state.old one) (meaning state.old) cursor.now) }
     {
-        let all = all_waiting(state, one.parts.as_slice(), self.room, cursor.alloc())?;
-        let bodies = self.all_read(state, from, cursor, all.as_slice())?;
-        Ok(with_parts(one, bodies)?)
+        let defaults = all_defaults(state, one.parts.as_slice(), cursor.alloc())?;
+        let bodies = all_waiting(state, one.parts.as_slice(), self.room, cursor.alloc())?;
+        let parts = self.all_read(state, from, cursor, defaults.as_slice(), bodies.as_slice())?;
+        Ok(with_parts(one, parts)?)
     }
 }

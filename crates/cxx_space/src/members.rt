@@ -8,7 +8,7 @@ ghost use Rattle.cxx_reading.specs.Tokens as token;
 ghost use Rattle.cxx_reading.specs.Units.{name_in};
 ghost use Rattle.cxx_language.specs.Values.{member_value};
 ghost use Rattle.cxx_reading.specs.Declarators.{no_cv};
-ghost use Rattle.cxx_space.specs.Classes.{IsMemberDeclared, fitting_member, labelled_of, member_ended, member_kept, member_of, members_at};
+ghost use Rattle.cxx_space.specs.Classes.{IsMemberDeclared, fitting_member, labelled_of, member_ended, member_kept, member_numbered, member_of, members_at};
 ghost use Rattle.cxx_space.specs.Views.{IsBodyKnown, IsDeclaredKnown, body_of, declares_of};
 ghost use Rattle.cxx_cursor.specs.Asking.{AnyKnown, IsTreeKnown, itself};
 ghost use Rattle.cxx_cursor.specs.Reading.{IsRead};
@@ -17,12 +17,12 @@ ghost use Rattle.cxx_tree.specs.Answered.{scope_of_option};
 ghost use Rattle.cxx_tree.specs.Held.{meaning, tree, trees, type_of};
 ghost use Rattle.cxx_units.specs.Said.{IsListed, IsListedTurn, IsSaid, listed_of, listed_turn, said_of};
 
-use crate::bodies::{Declared, alone, ended_by};
+use crate::bodies::{Declared, ended_by};
 use crate::space::{Defines, Space};
 use cxx_cursor::{Cursor, Declarator, NameToken, Specifiers, Turn, is_keyword, is_punct, joined};
 use cxx_declare::MemberWords;
 use cxx_language::Reader;
-use cxx_later::body_later;
+use cxx_later::{body_later, defaults_kept};
 use cxx_model::{
     Access, Cv, FactId, FaultText, LeftOut, Listed, ScopeId, Stop, TokenKind, TreeId, TreeIdList,
     TypeId, keyword, punct,
@@ -279,21 +279,24 @@ fn declared_behind(
     is_first: bool,
     of: TypeId,
     list: Option<ScopeId>,
+    defaults: TreeIdList,
     declarator: TreeId,
 ) -> Result<Declared, Stop>
     requires of { of.0 < length (state.old).types }
+    requires defaults { AreTreesHeld state.old defaults }
     requires declarator { declarator.0 < length (trees state.old) }
-    ensures { IsRead declares_of IsDeclaredKnown state.old state.new cursor.new result (definition.declared_behind is_pure is_first (type_of state.old of) (scope_of_option list) (tree state.old declarator) (meaning state.old) cursor.old) }
+    ensures { IsRead declares_of IsDeclaredKnown state.old state.new cursor.new result (definition.declared_behind is_pure is_first (type_of state.old of) (scope_of_option list) (trees_held state.old defaults) (tree state.old declarator) (meaning state.old) cursor.old) }
 {
     let body = body_unless_pure(state, cursor, is_pure, is_first, of, declarator, list)?;
     Ok(Declared {
         tree: declarator,
+        defaults,
         body,
     })
 }
 
 // A member whose value was read, if it has one.
-#[tactic(auto, using(cxx_cursor::proofs::Kept::type_kept, cxx_cursor::proofs::Kept::type_later, cxx_cursor::proofs::Kept::later_refl, cxx_cursor::proofs::Kept::later_trans))]
+#[tactic(auto, using(cxx_cursor::proofs::Kept::trees_kept, cxx_cursor::proofs::Kept::trees_later, cxx_cursor::proofs::Kept::type_kept, cxx_cursor::proofs::Kept::type_later, cxx_cursor::proofs::Kept::later_refl, cxx_cursor::proofs::Kept::later_trans))]
 fn member_ended(
     state: &mut State,
     cursor: &mut Cursor<'_>,
@@ -303,15 +306,17 @@ fn member_ended(
     name: &NameToken,
     of: TypeId,
     number: FactId,
+    defaults: TreeIdList,
     parts: TreeIdList,
     from: &Cursor<'_>,
 ) -> Result<Declared, Stop>
     requires of { of.0 < length (state.old).types }
+    requires defaults { AreTreesHeld state.old defaults }
     requires parts { AreTreesHeld state.old parts }
-    ensures { IsRead declares_of IsDeclaredKnown state.old state.new cursor.new result (member_ended is_pure is_first (scope_of_option list) (name_at name.now) (type_of state.old of) number.0 (trees_held state.old parts) from.now (meaning state.old) cursor.old) }
+    ensures { IsRead declares_of IsDeclaredKnown state.old state.new cursor.new result (member_ended is_pure is_first (scope_of_option list) (name_at name.now) (type_of state.old of) number.0 (trees_held state.old defaults) (trees_held state.old parts) from.now (meaning state.old) cursor.old) }
 {
     let tree = declarator_tree(state, false, name, of, number, parts, from, cursor)?;
-    declared_behind(state, cursor, is_pure, is_first, of, list, tree)
+    declared_behind(state, cursor, is_pure, is_first, of, list, defaults, tree)
 }
 
 impl<D: Defines> Space<'_, D> {
@@ -355,7 +360,7 @@ impl<D: Defines> Space<'_, D> {
         self.member_value(state, cursor, is_static, name, of, number)
     }
 
-    // A member that is declared.
+    // A member that is declared, with what is kept of its default arguments.
     #[tactic(auto, using(cxx_cursor::proofs::Kept::trees_kept, cxx_cursor::proofs::Kept::trees_later, cxx_cursor::proofs::Kept::trees_append, cxx_cursor::proofs::Kept::trees_below_append, cxx_cursor::proofs::Kept::type_kept, cxx_cursor::proofs::Kept::type_later, cxx_cursor::proofs::Kept::later_refl, cxx_cursor::proofs::Kept::later_trans))]
     fn member_kept(
         &self,
@@ -367,12 +372,14 @@ impl<D: Defines> Space<'_, D> {
         name: &NameToken,
         of: TypeId,
         number: FactId,
+        defaults: TreeIdList,
         parts: TreeIdList,
         from: &Cursor<'_>,
     ) -> Result<Declared, Stop>
         requires of { of.0 < length (state.old).types }
+        requires defaults { AreTreesHeld state.old defaults }
         requires parts { AreTreesHeld state.old parts }
-        ensures { IsRead declares_of IsDeclaredKnown state.old state.new cursor.new result (member_kept words.is_pure is_first (scope_of_option list) self.now.room words.is_static (name_at name.now) (type_of state.old of) number.0 (trees_held state.old parts) from.now (meaning state.old) cursor.old) }
+        ensures { IsRead declares_of IsDeclaredKnown state.old state.new cursor.new result (member_kept words.is_pure is_first (scope_of_option list) self.now.room words.is_static (name_at name.now) (type_of state.old of) number.0 (trees_held state.old defaults) (trees_held state.old parts) from.now (meaning state.old) cursor.old) }
     {
         whole_member(state, cursor, words.is_static, name, of)?;
         let value = self.value_or_pure(
@@ -394,8 +401,34 @@ impl<D: Defines> Space<'_, D> {
             name,
             of,
             number,
+            defaults,
             parts,
             from,
+        )
+    }
+
+    // A member with its number: what was passed over in its declarator is kept for the end of the class (9.2 p2).
+    #[tactic(auto, using(cxx_cursor::proofs::Kept::trees_kept, cxx_cursor::proofs::Kept::trees_later, cxx_cursor::proofs::Kept::type_kept, cxx_cursor::proofs::Kept::type_later, cxx_cursor::proofs::Kept::later_refl, cxx_cursor::proofs::Kept::later_trans))]
+    fn member_numbered(
+        &self,
+        state: &mut State,
+        cursor: &mut Cursor<'_>,
+        words: MemberWords,
+        is_first: bool,
+        list: Option<ScopeId>,
+        name: &NameToken,
+        of: TypeId,
+        number: FactId,
+        parts: TreeIdList,
+        from: &Cursor<'_>,
+    ) -> Result<Declared, Stop>
+        requires of { of.0 < length (state.old).types }
+        requires parts { AreTreesHeld state.old parts }
+        ensures { IsRead declares_of IsDeclaredKnown state.old state.new cursor.new result (member_numbered self.now.room words is_first (scope_of_option list) (name_at name.now) (type_of state.old of) (trees_held state.old parts) from.now number.0 (meaning state.old) cursor.old) }
+    {
+        let defaults = defaults_kept(state, cursor, list, Some(number))?;
+        self.member_kept(
+            state, cursor, words, is_first, list, name, of, number, defaults, parts, from,
         )
     }
 
@@ -417,8 +450,8 @@ impl<D: Defines> Space<'_, D> {
         requires parts { AreTreesHeld state.old parts }
         ensures { IsRead declares_of IsDeclaredKnown state.old state.new cursor.new result (member_of self.now.room words is_first (scope_of_option list) (name_at name.now) (type_of state.old of) (trees_held state.old parts) from.now (meaning state.old) cursor.old) }
     {
-        let number = self.declares.declare_member(state, words, name, of)?;
-        self.member_kept(
+        let number = self.declares.declare_member(state, words, list, name, of)?;
+        self.member_numbered(
             state, cursor, words, is_first, list, name, of, number, parts, from,
         )
     }
@@ -527,7 +560,7 @@ impl<D: Defines> Space<'_, D> {
     }
 
     // A name of a type, given its declarator (7.1.3).
-    #[tactic(auto, using(cxx_cursor::proofs::Kept::later_refl, cxx_cursor::proofs::Kept::later_trans), unfolding(cxx_language::specs::Classes::synonym_member))]
+    #[tactic(auto, using(cxx_expr::proofs::Kept::tree_kept, cxx_expr::proofs::Kept::tree_later, cxx_cursor::proofs::Kept::later_refl, cxx_cursor::proofs::Kept::later_trans), unfolding(cxx_language::specs::Classes::synonym_member))]
     fn synonym_member(
         &self,
         state: &mut State,
@@ -535,13 +568,19 @@ impl<D: Defines> Space<'_, D> {
         said: Said,
         declarator: Declarator,
         from: &Cursor<'_>,
-    ) -> Result<TreeId, Stop>
+    ) -> Result<Declared, Stop>
         requires said { IsSaid state.old said }
         requires declarator { IsDeclarator state.old declarator }
-        ensures { IsRead tree IsTreeKnown state.old state.new cursor.now result (definition.synonym_member (said_of state.old said) (declarator_of state.old declarator) from.now (meaning state.old) cursor.now) }
+        ensures { IsRead declares_of IsDeclaredKnown state.old state.new cursor.now result (definition.synonym_member (said_of state.old said) (declarator_of state.old declarator) from.now (meaning state.old) cursor.now) }
     {
         declared_fits(state, cursor, said, &declarator)?;
-        self.synonym_as(state, cursor, said, declarator, from)
+        let tree = self.synonym_as(state, cursor, said, declarator, from)?;
+        let defaults = defaults_kept(state, cursor, None, None)?;
+        Ok(Declared {
+            tree,
+            defaults,
+            body: None,
+        })
     }
 
     // A member, given its declarator.
@@ -561,8 +600,7 @@ impl<D: Defines> Space<'_, D> {
         ensures { IsRead declares_of IsDeclaredKnown state.old state.new cursor.new result (definition.declared_member self.now.room (labelled_of label) (said_of state.old said) is_first (declarator_of state.old declarator) from.now (meaning state.old) cursor.old) }
     {
         if said.is_typedef {
-            let tree = self.synonym_member(state, cursor, said, declarator, from)?;
-            return Ok(alone(tree));
+            return self.synonym_member(state, cursor, said, declarator, from);
         }
         self.data_member(state, cursor, label, said, is_first, declarator, from)
     }

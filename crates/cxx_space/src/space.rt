@@ -1,17 +1,20 @@
-//! Who reads the bodies of functions, opens namespaces and defines classes.
+//! Who reads the bodies of functions and the default arguments in classes, opens namespaces and defines classes.
 
 ghost use Rattle.std.specs.Prelude.{◌<◌, length};
+ghost use Rattle.cxx_answers.specs.Defaults as defaults;
 ghost use Rattle.cxx_declare.specs.Based.{base_of};
 ghost use Rattle.cxx_declare.specs.Bases as bases;
 ghost use Rattle.cxx_declare.specs.ClassDefinitions as classes;
+ghost use Rattle.cxx_language.specs.Asked.{inner_at, phrases_at};
 ghost use Rattle.cxx_language.specs.Bodies.{function_body};
+ghost use Rattle.cxx_phrases.specs.Levels.{assignment_at};
 ghost use Rattle.cxx_reading.specs.Spaces as spaces;
 ghost use Rattle.cxx_cursor.specs.Asking.{AnyKnown, IsAsked, IsTreeKnown, itself};
 ghost use Rattle.cxx_cursor.specs.Reading.{IsRead};
 ghost use Rattle.cxx_cursor.specs.Views.{lexeme_at, name_at};
-ghost use Rattle.cxx_tree.specs.Answered.{IsClassKnown, class_number, fact_number};
-ghost use Rattle.cxx_tree.specs.Arena.{path_at};
-ghost use Rattle.cxx_tree.specs.Held.{meaning, tree, type_of};
+ghost use Rattle.cxx_tree.specs.Answered.{IsClassKnown, class_number, fact_number, scope_of_option};
+ghost use Rattle.cxx_tree.specs.Arena.{number_of_option, path_at};
+ghost use Rattle.cxx_tree.specs.Held.{meaning, tree, trees, type_of};
 
 use cxx_cursor::{Cursor, NameToken, Spelled};
 use cxx_declare::{BaseOf, MemberWords};
@@ -19,7 +22,7 @@ use cxx_language::Declares;
 use cxx_model::{ClassId, FactId, Path, Place, ScopeId, Stop, TreeId, TypeId};
 use cxx_tree::State;
 
-/// Who reads the bodies of functions, opens namespaces and defines classes too.
+/// Who reads the bodies of functions and the default arguments in classes, opens namespaces and defines classes too.
 pub trait Defines: Declares {
     /// The body of the function with a declaration, whose list of parameters has a scope, from its `{` on (8.4).
     fn body(
@@ -69,20 +72,50 @@ pub trait Defines: Declares {
     fn declare_base(&self, state: &mut State, of: BaseOf, path: &Path) -> Result<(), Stop>
         ensures { IsAsked itself AnyKnown state.old state.new result (bases.declare_base (base_of of) (path_at path.now) (meaning state.old)) };
 
-    /// A member (9.2), with what is said of it besides its name and its type.
+    /// A member (9.2), with what is said of it besides its name and its type, and the scope of the list of parameters that its
+    /// declarator has.
     fn declare_member(
         &self,
         state: &mut State,
         words: MemberWords,
+        list: Option<ScopeId>,
         name: &NameToken,
         of: TypeId,
     ) -> Result<FactId, Stop>
         requires { of.0 < length (state.old).types }
-        ensures { IsAsked fact_number AnyKnown state.old state.new result (classes.declare_member words (name_at name.now) (type_of state.old of) (meaning state.old)) };
+        ensures { IsAsked fact_number AnyKnown state.old state.new result (classes.declare_member words (scope_of_option list) (name_at name.now) (type_of state.old of) (meaning state.old)) };
 
     /// The definition of a class ends, at the place of its name (9.2, 12.1).
     fn end_class(&self, state: &mut State, class: ClassId, place: Place) -> Result<(), Stop>
         ensures { IsAsked itself AnyKnown state.old state.new result (classes.end_class class.0 place (meaning state.old)) };
+
+    /// A default argument that was passed over in a class begins to be read (8.3.6, 9.2 p2).
+    fn begin_later(&self, state: &mut State) -> Result<(), Stop>
+        ensures { IsAsked itself AnyKnown state.old state.new result (defaults.begin_later (meaning state.old)) };
+
+    /// The expression of a default argument, from behind its `=` on (8.3.6).
+    fn default_value(
+        &self,
+        state: &mut State,
+        cursor: &mut Cursor<'_>,
+        room: u32,
+    ) -> Result<TreeId, Stop>
+        ensures { IsRead tree IsTreeKnown state.old state.new cursor.new result (assignment_at (phrases_at room) (inner_at room).phrases (meaning state.old) cursor.old) };
+
+    /// A default argument that was passed over was read, of the parameter with an index and a type: it is converted at its `=`,
+    /// and given by the declaration of its function, where that tells it.
+    fn end_later(
+        &self,
+        state: &mut State,
+        equals: Place,
+        declaration: Option<FactId>,
+        index: u32,
+        of: TypeId,
+        number: TreeId,
+    ) -> Result<(), Stop>
+        requires of { of.0 < length (state.old).types }
+        requires number { number.0 < length (trees state.old) }
+        ensures { IsAsked itself AnyKnown state.old state.new result (defaults.end_later equals (number_of_option declaration) index (type_of state.old of) (tree state.old number) (meaning state.old)) };
 }
 
 /// A reader of declarations with room for so many more brackets and braces.
