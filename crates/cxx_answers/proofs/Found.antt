@@ -17,7 +17,7 @@ use Rattle.cxx_reading.specs.Seen.{Numbered, fact_numbers, numbered_at}
 use Rattle.cxx_tree.specs.Held.{Held, fact_of_option, meaning}
 use Rattle.cxx_expr.specs.Calls.{bare_word}
 use Rattle.cxx_expr.specs.Views.{AreFactsBelow, AreFactsKnown, numbered, numbered_in, with_fact}
-use Rattle.cxx_answers.specs.Answers.{found_in_sets, fresh_among, is_function_put_off, is_local, is_tested, names_local, names_put_off, names_tested, scope_of_giver, types_of_operands}
+use Rattle.cxx_answers.specs.Answers.{found_in_sets, fresh_among, is_local, is_tested, names_local, names_tested, scope_of_giver, types_of_operands}
 use Rattle.cxx_answers.specs.Besides.{besides_in}
 use Rattle.cxx_answers.specs.Told.{AreNumbersBelow, IsScopeOf}
 use Rattle.cxx_answers.proofs.Fresh.{numbered_is}
@@ -165,20 +165,6 @@ local_meant held seen numbers answer same is =
     (is held.types ∙ ap (names_local (graph_at held.types seen)) (sym (looked_same held.types seen numbers)))
 
 -- ---- functions of classes
-
-pub put_off_more : (types : List CxxType) (facts : List Fact) (number : FactId) (numbers : List FactId)
-    → names_put_off (looked_up types facts (number ∷ numbers)) ≡ (names_put_off (looked_up types facts (number ∷ [])) || names_put_off (looked_up types facts numbers))
-put_off_more types facts number numbers = by (slice_get facts number.0)
-  where
-    by : (o : Option Fact) → names_put_off (seen_by types number (looked_up types facts numbers) o) ≡ (names_put_off (seen_by types number [] o) || names_put_off (looked_up types facts numbers))
-    by None = refl
-    by (Some fact) = or_again (is_function_put_off (declares_at types fact.what)) (names_put_off (looked_up types facts numbers))
-
-pub put_off_meant : (held : Held) (seen : Graph) (numbers : List FactId) (answer : Bool) → seen ≡ held.graph → ((types : List CxxType) → answer ≡ names_put_off (looked_up types seen.facts numbers)) → answer ≡ names_put_off (numbered held numbers)
-unfolding meaning
-put_off_meant held seen numbers answer same is =
-    subst (λ (g : Graph). answer ≡ names_put_off (numbered_in (graph_at held.types g) numbers)) same
-    (is held.types ∙ ap names_put_off (sym (looked_same held.types seen numbers)))
 
 -- ---- the object that a condition declares
 

@@ -13,7 +13,7 @@ use Rattle.cxx_model.specs.declared.types.ClassId.{ClassId}
 use Rattle.cxx_model.specs.declared.types.FactId.{FactId}
 use Rattle.cxx_model.specs.Facts.Declarations as facts
 use Rattle.cxx_model.specs.Facts.Declarations.{CxxGraph, CxxName, Declares, spelled}
-use Rattle.cxx_model.specs.Stops.{Answer, Stopped, Limited, ◌>>=◌, fault, not_built_at, undeclared_at}
+use Rattle.cxx_model.specs.Stops.{Answer, Stopped, Limited, ◌>>=◌, fault, undeclared_at}
 use Rattle.cxx_model.specs.Types.Trees.{CxxType}
 use Rattle.cxx_meaning.specs.declared.size.SizeReason.{SizeReason}
 use Rattle.cxx_meaning.specs.declared.size.SizeReason.TheVariants as reason
@@ -31,12 +31,12 @@ use Rattle.cxx_reading.specs.Paths.{found_in, name_in, region_of, scope_of_regio
 use Rattle.cxx_reading.specs.Reads.{Asks}
 use Rattle.cxx_reading.specs.Seen.{Numbered, numbered_at}
 use Rattle.cxx_reading.specs.State.{CxxGiven, CxxState}
-use Rattle.cxx_reading.specs.Trees.{CxxTree, CxxPath, is_plain_path, last_part}
+use Rattle.cxx_reading.specs.Trees.{CxxTree, CxxPath, last_part}
 use Rattle.cxx_overload.specs.Calls.{CxxDecision, decided}
 use Rattle.cxx_tree.specs.Defaults.{first_given}
 use Rattle.cxx_tree.specs.Uses.{with_use}
 use Rattle.cxx_expr.specs.Questions.{Questions, CxxQuestion, CxxChosen}
-use Rattle.cxx_answers.specs.Members.{member_here}
+use Rattle.cxx_answers.specs.Members.{member_here, naming_here, qualifier_here}
 
 -- ---- names (3.4.1)
 
@@ -71,32 +71,13 @@ abbrev pub names_tested : Option ℕ → ℕ → List Numbered → Bool
 names_tested tested scope [] = false
 names_tested tested scope (one ∷ others) = is_tested tested scope one || names_tested tested scope others
 
--- 9.3: whether a declaration is that of a function which belongs to an object of its class, which a name with qualifiers may
--- not mean yet
-abbrev pub is_put_off : MemberKind → Bool
-is_put_off member_kind.Free = false
-is_put_off member_kind.Static = false
-is_put_off _ = true
-
-abbrev pub is_function_put_off : Declares → Bool
-is_function_put_off (facts.function of kind flags defaults first) = is_put_off kind
-is_function_put_off _ = false
-
-abbrev pub names_put_off : List Numbered → Bool
-names_put_off [] = false
-names_put_off (one ∷ others) = is_function_put_off one.fact.what || names_put_off others
-
-abbrev pub is_not_built : Bool → List Numbered → Bool
-is_not_built is_plain all = not is_plain && names_put_off all
-
 -- 8.3.6: a default argument means no local object. 6.5.3: What a `for` does behind each turn does not name the object that its
 -- condition declares, which stands in the scope of the `for` itself.
 abbrev pub name_meant : CxxPath → List Numbered → Asks CxxState (List Numbered)
 name_meant path all state =
     if state.in_default && names_local state.graph all then Err (fault (last_part path.parts).place says.OperandsDoNotFit) else (
-    if state.in_step && names_tested state.tested state.here.scope all then Err (fault (last_part path.parts).place (says.LeftOut form.ConditionNameInStep)) else (
-    if is_not_built (is_plain_path path) all then Err (not_built_at (last_part path.parts).place) else
-    Ok (all, state)))
+    if state.in_step && names_tested state.tested state.here.scope all then Err (fault (last_part path.parts).place (says.LeftOut form.ConditionNameInStep)) else
+    Ok (all, state))
 
 -- 3.4: what it may mean is told apart
 abbrev pub name_in_region : CxxPath → Region → Asks CxxState (List Numbered)
@@ -219,10 +200,12 @@ fallback_here path function index state = region_of state.graph state.here.scope
 unfoldable pub questions : Questions
 questions = record {
   name = name_here;
+  naming = naming_here;
   member = member_here;
   bound = bound_here;
   call = call_here;
   fallback = fallback_here;
   size = size_here;
+  qualifier = qualifier_here;
   is_null = is_null_here;
 }

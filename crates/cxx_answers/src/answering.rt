@@ -5,7 +5,7 @@ use crate::constants::is_null_here;
 use crate::defaults::fallback_here;
 use crate::making::{built_in_here, cast_here, conditional_here};
 use crate::measured::type_of_operand;
-use crate::members::member_here;
+use crate::members::{member_here, naming_here, qualifier_here};
 use crate::names::{bound_here, name_here};
 use crate::sizes::size_here;
 use cxx_builtin::{BuiltIn, ResultFault};
@@ -31,6 +31,11 @@ impl Questions for Answering {
     #[tactic(auto, unfolding(crate::specs::Answers::questions))]
     fn name(&self, state: &mut State, path: &Path) -> Result<FactList, Stop> {
         name_here(state.alloc(), state, path)
+    }
+
+    #[tactic(auto, unfolding(crate::specs::Answers::questions))]
+    fn naming(&self, state: &mut State, class: ClassId, path: &Path) -> Result<ClassId, Stop> {
+        naming_here(state.alloc(), state, class, path)
     }
 
     #[tactic(auto, unfolding(crate::specs::Answers::questions))]
@@ -90,6 +95,11 @@ impl Questions for Answering {
     #[tactic(auto, unfolding(crate::specs::Answers::questions))]
     fn size(&self, state: &mut State, of: TypeId) -> Result<Result<u64, SizeReason>, Stop> {
         size_here(state, of)
+    }
+
+    #[tactic(auto, unfolding(crate::specs::Answers::questions))]
+    fn qualifier(&self, state: &State, path: &Path) -> Result<Option<ClassId>, OutOfMemory> {
+        qualifier_here(state, path)
     }
 
     #[tactic(auto, unfolding(crate::specs::Answers::questions))]

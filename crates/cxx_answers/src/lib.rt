@@ -24,6 +24,6 @@ pub use constants::{constant_here, is_null_here, value_here};
 pub use defaults::{
     begin_default, begin_later, end_default, end_later, is_default_later, offer_default,
 };
-pub use members::member_here;
+pub use members::{member_here, naming_here, qualifier_here};
 pub use names::{bound_here, name_here};
 pub use sizes::size_here;

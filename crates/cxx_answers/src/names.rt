@@ -17,7 +17,7 @@ ghost use Rattle.cxx_tree.specs.Held.{fact_of_option, meaning};
 
 use crate::seen::with_givers;
 use crate::typed::fact_of;
-use cxx_expr::faults::{fault, not_built_at};
+use cxx_expr::faults::fault;
 use cxx_found::{Found, Wanted};
 use cxx_graph::Graph;
 use cxx_model::{
@@ -26,7 +26,7 @@ use cxx_model::{
 use cxx_names::Names;
 use cxx_paths::{last_place, name_sought, region_here, scope_of, set_in, unambiguous_name};
 use cxx_reading::Region;
-use cxx_tree::{State, is_plain_path};
+use cxx_tree::State;
 use std::alloc::Global;
 
 fn is_free(member: MemberKind) -> bool
@@ -127,64 +127,7 @@ fn is_left_out(state: &State, numbers: &[FactId]) -> bool
     state.in_step() && means_tested(state, numbers)
 }
 
-// Whether a name with qualifiers may not mean a function that stands to a class like this yet (9.3).
-fn is_put_off(member: MemberKind) -> bool
-    ensures { result ≡ definition.is_put_off member }
-{
-    match member {
-        MemberKind::Free => false,
-        MemberKind::Static => false,
-        _ => true,
-    }
-}
-
-fn is_function_put_off(what: Entity) -> bool
-    ensures { (types : List CxxType) → result ≡ definition.is_function_put_off (declares_at types what) }
-{
-    match what {
-        Entity::Function { member, .. } => is_put_off(member),
-        _ => false,
-    }
-}
-
-// Whether a declaration is that of such a function.
-fn puts_off(graph: &Graph, number: FactId) -> bool
-    ensures { (types : List CxxType) → result ≡ definition.names_put_off (looked_up types graph.now.facts (number ∷ [])) }
-{
-    match fact_of(graph, number) {
-        Some(fact) => is_function_put_off(fact.what),
-        None => false,
-    }
-}
-
-// Whether one of some declarations is that of such a function.
-fn names_put_off(graph: &Graph, numbers: &[FactId]) -> bool
-    ensures { (types : List CxxType) → result ≡ definition.names_put_off (looked_up types graph.now.facts numbers.now) }
-{
-    for number in numbers {
-        if puts_off(graph, *number) {
-            return true;
-        }
-    }
-    false
-}
-
-// The same of the state.
-fn means_put_off(state: &State, numbers: &[FactId]) -> bool
-    ensures { result ≡ definition.names_put_off (numbered state.now numbers.now) }
-{
-    names_put_off(state.graph(), numbers)
-}
-
-// Whether a name, with qualifiers or without, may not mean them yet.
-fn is_not_built(state: &State, is_plain: bool, numbers: &[FactId]) -> bool
-    ensures { result ≡ definition.is_not_built is_plain (numbered state.now numbers.now) }
-{
-    !is_plain && means_put_off(state, numbers)
-}
-
-// What a name means that has these declarations, where it may mean them. A function that belongs to an object is not named
-// with qualifiers yet (9.3).
+// What a name means that has these declarations, where it may mean them.
 #[tactic(auto, using(cxx_expr::proofs::Kept::later_refl))]
 fn name_meant(
     alloc: Global,
@@ -204,9 +147,6 @@ fn name_meant(
         let place = last_place(parts);
         let text = FaultText::LeftOut(LeftOut::ConditionNameInStep);
         return Err(Stop::Fault(fault(alloc, place, text)?));
-    }
-    if is_not_built(state, is_plain_path(path), all.as_slice()) {
-        return Err(Stop::Fault(not_built_at(alloc, last_place(parts))?));
     }
     Ok(all)
 }
@@ -264,8 +204,7 @@ fn name_in_region(
 /// All declarations that a name with its qualifiers means where the reader stands (3.4.1, 3.4.3): its entities by their first
 /// declarations, and behind them the declarations of functions that tell their default arguments where it is looked up (8.3.6).
 /// It stops where a qualifier means no namespace, where the name is ambiguous (3.4), at a local object in a default argument
-/// (8.3.6), at the object that the condition of a `for` declares in what that does behind each turn (6.5.3), and at a function
-/// that belongs to an object, where it is named with qualifiers (9.3).
+/// (8.3.6), and at the object that the condition of a `for` declares in what that does behind each turn (6.5.3).
 #[tactic(auto, using(cxx_paths::proofs::Stopping::region_then, cxx_paths::proofs::Stopping::region_stopped), unfolding(crate::specs::Answers::name_here))]
 pub fn name_here(alloc: Global, state: &mut State, path: &Path) -> Result<FactList, Stop>
     ensures { IsAnswered numbered AreFactsKnown state.old state.new result (definition.name_here (path_at path.now) (meaning state.old)) }

@@ -24,7 +24,8 @@ use Rattle.cxx_names.specs.Looked.{looked_up, seen_by}
 use Rattle.cxx_names.specs.Named.{has_the_name}
 use Rattle.cxx_tree.proofs.Graphs.{enumerations_append}
 use Rattle.cxx_tree.specs.Held.{Held, meaning}
-use Rattle.cxx_expr.specs.Calls.{called_first, class_called, functions_called, is_asked_for, is_bare, value_call}
+use Rattle.cxx_expr.specs.Calls.{called_first, functions_called, is_asked_for, is_bare, value_call}
+use Rattle.cxx_this.specs.This.{class_at}
 use Rattle.cxx_expr.specs.Names.{are_one_function, first_type, in_full, in_full_by, is_function_with, known_among, known_at as known_by_fact, means_first, means_value, no_value_at, type_by_fact, type_declared, values_among}
 use Rattle.cxx_expr.specs.Questions.{Questions}
 use Rattle.cxx_expr.specs.Views.{AreFactsBelow, AreFactsKnown, numbered, numbered_in, with_fact}
@@ -327,14 +328,14 @@ value_first held part place all number numbers fact at =
     ap (λ o. means_value part place all (with_fact number.0 o (numbered held numbers)) (meaning held)) at
     ∙ ap (λ o. means_first place (meaning held).graph (meaning held).here.enumeration (with_fact number.0 o (numbered held numbers)) number.0 fact.what (meaning held)) (sym at)
 
-called_by : (held : Held) (q : Questions) (tree : CxxTree) (all : List Numbered) (arguments : List CxxTree) (number : FactId) (numbers : List FactId) (fact : CxxFact) (b : Bool) → slice_get (meaning held).graph.facts number.0 ≡ Some fact → is_function (meaning held).graph fact.what ≡ b → called_first q tree all arguments (numbered held (number ∷ numbers)) (meaning held) ≡ (if b then functions_called q tree (numbered held (number ∷ numbers)) arguments fact.scope (class_called (meaning held).graph tree.label fact.scope) (meaning held) else value_call q tree all arguments (meaning held))
+called_by : (held : Held) (q : Questions) (tree : CxxTree) (all : List Numbered) (arguments : List CxxTree) (number : FactId) (numbers : List FactId) (fact : CxxFact) (b : Bool) → slice_get (meaning held).graph.facts number.0 ≡ Some fact → is_function (meaning held).graph fact.what ≡ b → called_first q tree all arguments (numbered held (number ∷ numbers)) (meaning held) ≡ (if b then functions_called q tree (numbered held (number ∷ numbers)) arguments fact.scope (class_at (meaning held).graph fact.scope) (meaning held) else value_call q tree all arguments (meaning held))
 called_by held q tree all arguments number numbers fact b at is =
-    let class : Option CxxType = class_called (meaning held).graph tree.label fact.scope in
+    let class : Option CxxType = class_at (meaning held).graph fact.scope in
     ap (λ o. called_first q tree all arguments (with_fact number.0 o (numbered held numbers)) (meaning held)) at
     ∙ ap (λ (t : Bool). if t then functions_called q tree (with_fact number.0 (Some fact) (numbered held numbers)) arguments fact.scope class (meaning held) else value_call q tree all arguments (meaning held)) is
     ∙ ap (λ o. if b then functions_called q tree (with_fact number.0 o (numbered held numbers)) arguments fact.scope class (meaning held) else value_call q tree all arguments (meaning held)) (sym at)
 
-pub called_function : (held : Held) (q : Questions) (tree : CxxTree) (all : List Numbered) (arguments : List CxxTree) (number : FactId) (numbers : List FactId) (fact : CxxFact) → slice_get (meaning held).graph.facts number.0 ≡ Some fact → is_function (meaning held).graph fact.what ≡ true → called_first q tree all arguments (numbered held (number ∷ numbers)) (meaning held) ≡ functions_called q tree (numbered held (number ∷ numbers)) arguments fact.scope (class_called (meaning held).graph tree.label fact.scope) (meaning held)
+pub called_function : (held : Held) (q : Questions) (tree : CxxTree) (all : List Numbered) (arguments : List CxxTree) (number : FactId) (numbers : List FactId) (fact : CxxFact) → slice_get (meaning held).graph.facts number.0 ≡ Some fact → is_function (meaning held).graph fact.what ≡ true → called_first q tree all arguments (numbered held (number ∷ numbers)) (meaning held) ≡ functions_called q tree (numbered held (number ∷ numbers)) arguments fact.scope (class_at (meaning held).graph fact.scope) (meaning held)
 called_function held q tree all arguments number numbers fact at is = called_by held q tree all arguments number numbers fact true at is
 
 pub called_value : (held : Held) (q : Questions) (tree : CxxTree) (all : List Numbered) (arguments : List CxxTree) (number : FactId) (numbers : List FactId) (fact : CxxFact) → slice_get (meaning held).graph.facts number.0 ≡ Some fact → is_function (meaning held).graph fact.what ≡ false → called_first q tree all arguments (numbered held (number ∷ numbers)) (meaning held) ≡ value_call q tree all arguments (meaning held)

@@ -1,3 +1,2 @@
-pub mod Members
 pub mod Tails
 pub mod Views

@@ -1,117 +1,43 @@
-//! Functions of bases, which are called for the base of an object (10.2, 13.3.1.1.1).
+//! Objects as those of the class that is written before a member, and of the class that declares it (5.2.5, 10.2).
 
-ghost use Rattle.std.specs.Prelude.{List, ◌≡◌, ◌<◌, length, IfOk, Some};
-ghost use Rattle.std.specs.List.{slice_get};
-ghost use Rattle.std.specs.Option.{option_copied};
-ghost use Rattle.cxx_model.specs.Facts.Declarations.{declares_at, fact_at};
-ghost use Rattle.cxx_model.specs.Facts.Graph.{IsClassNumberInRange};
-ghost use Rattle.cxx_model.specs.Types.Trees.{CxxType, class_type, reference_to as reference_of, with_cv as with_words};
+ghost use Rattle.std.specs.Prelude.{◌≡◌, ◌<◌, length, IfOk, Some};
+ghost use Rattle.cxx_model.specs.Facts.Declarations.{type_of_option};
+ghost use Rattle.cxx_model.specs.Facts.Fitted.{IsTypeNumberBelow};
+ghost use Rattle.cxx_model.specs.Stops.{Gives};
+ghost use Rattle.cxx_model.specs.Types.Trees.{reference_to as reference_of, with_cv as with_words};
 ghost use Rattle.cxx_reading.specs.Initializers.{operand_of};
+ghost use Rattle.cxx_standard.specs.Views.{Computes};
 ghost use Rattle.cxx_tree.specs.Answered.{IsAnswered};
 ghost use Rattle.cxx_tree.specs.Held.{meaning, tree, trees, type_of};
-ghost use Rattle.cxx_expr.specs.Calls as definition;
-ghost use Rattle.cxx_expr.specs.Making.{GrowsTree, GrowsType};
-ghost use Rattle.cxx_expr.specs.Names as names;
+ghost use Rattle.cxx_expr.specs.Bases.{one_base as one_base_of};
+ghost use Rattle.cxx_expr.specs.Calls as calls;
+ghost use Rattle.cxx_expr.specs.Converting as converting;
+ghost use Rattle.cxx_expr.specs.Making.{GrowsTree, GrowsType, IsTreeKnown};
 ghost use Rattle.cxx_expr.specs.Nodes.{IsNodeHeld, node_tree};
-ghost use Rattle.cxx_called.specs.Members.{class_of_option};
+ghost use Rattle.cxx_expr.specs.Operands.{object_operand};
+ghost use Rattle.cxx_expr.specs.Steps as definition;
 ghost use Rattle.cxx_called.specs.Tails as tails;
 
-use crate::implied::pointed_tree;
+use crate::classes::{class_before, declaring, is_static_at, or_own};
+use crate::implied::{is_derived_from, pointed_tree};
 use crate::members::class_of_type;
-use crate::names::{place_in, type_of_class};
-use cxx_expr::faults::not_built_at;
+use crate::names::place_in;
 use cxx_expr::nodes::only_child;
-use cxx_expr::operators::{listed_one, misshapen};
+use cxx_expr::operators::{listed_one, misshapen, no_fit};
 use cxx_expr::production::{ARROW, MEMBER};
-use cxx_expr::{Questions, class_of_scope, convert};
-use cxx_graph::Graph;
-use cxx_model::{ClassId, Cv, Entity, Fact, FactId, MemberKind, Node, Stop, TreeId, TypeId};
+use cxx_expr::{Questions, convert, one_base};
+use cxx_model::{
+    ClassId, ConstantKind, Cv, FactId, Node, Operand, OutOfMemory, Place, Stop, TreeId, TypeId,
+};
 use cxx_standard::cv_of;
 use cxx_tree::State;
 use std::alloc::{AllocError, Global};
 
-// ---- which base
-
-fn is_static(member: MemberKind) -> bool
-    ensures { result ≡ names.is_static member }
-{
-    match member {
-        MemberKind::Static => true,
-        _ => false,
-    }
-}
-
-// What is the same for each object of its class (9.4).
-fn is_static_member(what: Entity) -> bool
-    ensures { (types : List CxxType) → result ≡ names.is_static_member (declares_at types what) }
-{
-    match what {
-        Entity::Object { member, .. } => is_static(member),
-        Entity::Function { member, .. } => is_static(member),
-        _ => false,
-    }
-}
-
-// A class, where it is not the other.
-fn other_class(own: ClassId, class: Option<ClassId>) -> Option<ClassId>
-    ensures { names.class_or_none result ≡ definition.other_class own.0 class }
-{
-    match class {
-        Some(class) => { if own.0 == class.0 { None } else { Some(class) } }
-        None => None,
-    }
-}
-
-// The class that declares a function, where it is not that of the object.
-fn other_than(graph: &Graph, own: Option<ClassId>, class: Option<ClassId>) -> Option<ClassId>
-    requires { IsClassNumberInRange graph.now class }
-    ensures is { names.class_or_none result ≡ definition.other_than (class_of_option own) class }
-    ensures there { IsClassNumberInRange graph.now result }
-{
-    let _ = graph;
-    match own {
-        Some(own) => other_class(own, class),
-        None => None,
-    }
-}
-
-// A static function has no object (9.4).
-fn base_of_fact(state: &State, of: TypeId, fact: &Fact) -> Option<ClassId>
-    requires { of.0 < length (state.now).types }
-    ensures is { names.class_or_none result ≡ definition.base_of_fact (meaning state.now).graph (type_of state.now of) (Some (fact_at (state.now).types fact.now)) }
-    ensures there { IsClassNumberInRange (state.now).graph result }
-{
-    if is_static_member(fact.what) {
-        return None;
-    }
-    let own = class_of_type(state, of);
-    other_than(state.graph(), own, class_of_scope(state, fact.scope))
-}
-
-fn fact_found(graph: &Graph, number: FactId) -> Option<&Fact>
-    ensures { option_copied result ≡ slice_get graph.now.facts number.0 }
-{
-    graph.facts().get(number.0 as usize)
-}
-
-// The base of an object's class that declares a function.
-#[tactic(auto, using(crate::proofs::Based::base_some, crate::proofs::Based::base_none))]
-fn base_declaring(state: &State, of: TypeId, target: FactId) -> Option<ClassId>
-    requires { of.0 < length (state.now).types }
-    ensures is { names.class_or_none result ≡ definition.base_declaring (meaning state.now).graph (type_of state.now of) target.0 }
-    ensures there { IsClassNumberInRange (state.now).graph result }
-{
-    match fact_found(state.graph(), target) {
-        Some(fact) => base_of_fact(state, of, fact),
-        None => None,
-    }
-}
-
 // ---- the object
 
-// What `->` selects from, as an object.
+/// What `->` selects from, as an object.
 #[tactic(auto, using(cxx_expr::proofs::Kept::later_refl))]
-fn object_called(
+pub(crate) fn object_called(
     alloc: Global,
     state: &mut State,
     callee: &Node,
@@ -128,20 +54,24 @@ fn object_called(
     Ok(one)
 }
 
-fn callee_over(
+// A member of an object, with the class that stands before it.
+fn member_over(
     alloc: Global,
     state: &State,
     callee: Node,
     object: TreeId,
+    class: Option<TypeId>,
 ) -> Result<Node, AllocError>
     requires callee { IsNodeHeld state.now callee }
     requires object { object.0 < length (trees state.now) }
-    ensures is { IfOk result (λ over. node_tree state.now over ≡ definition.callee_over (node_tree state.now callee) (tree state.now object)) }
+    requires class { IsTypeNumberBelow (length (state.now).types) class }
+    ensures is { IfOk result (λ over. node_tree state.now over ≡ definition.member_over (node_tree state.now callee) (tree state.now object) (type_of_option (state.now).types class)) }
     ensures held { IfOk result (IsNodeHeld state.now) }
 {
     let _ = state;
     let mut callee = callee;
     callee.production = MEMBER;
+    callee.of = class;
     callee.children = listed_one(alloc, object)?;
     Ok(callee)
 }
@@ -179,49 +109,29 @@ fn base_reference(state: &mut State, of: TypeId, base: TypeId) -> Result<TypeId,
     reference_to(state, object)
 }
 
-// By the reference to which the object is converted.
-#[tactic(auto, using(cxx_expr::proofs::NodeKept::node_later, cxx_expr::proofs::NodeKept::node_kept), unfolding(crate::specs::Tails::base_bound))]
-fn base_bound<Q: Questions>(
+// Converted to a reference to another class, with the words of the object.
+#[tactic(auto, using(cxx_expr::proofs::Kept::later_trans, cxx_expr::proofs::Kept::tree_later, cxx_expr::proofs::Kept::tree_kept))]
+fn converted_to<Q: Questions>(
     alloc: Global,
     questions: &Q,
     state: &mut State,
-    callee: Node,
-    reference: TypeId,
-    object: TreeId,
-) -> Result<Node, Stop>
-    requires ready { Q.is_ready questions.now }
-    requires callee { IsNodeHeld state.old callee }
-    requires reference { reference.0 < length (state.old).types }
-    requires object { object.0 < length (trees state.old) }
-    ensures { IsAnswered node_tree IsNodeHeld state.old state.new result (tails.base_bound (Q.asks questions.now) (node_tree state.old callee) (type_of state.old reference) (tree state.old object) (meaning state.old)) }
-{
-    let place = place_in(&callee);
-    let converted = convert(alloc, questions, state, place, reference, object)?;
-    Ok(callee_over(alloc, state, callee, converted)?)
-}
-
-#[tactic(auto, using(cxx_expr::proofs::Kept::later_trans, cxx_expr::proofs::NodeKept::node_later, cxx_expr::proofs::NodeKept::node_kept, cxx_expr::proofs::Kept::tree_later, cxx_expr::proofs::Kept::tree_kept), unfolding(cxx_expr::specs::Calls::base_converted, crate::specs::Tails::base_bound))]
-fn base_converted<Q: Questions>(
-    alloc: Global,
-    questions: &Q,
-    state: &mut State,
-    callee: Node,
+    place: Place,
     of: TypeId,
-    base: TypeId,
+    to: TypeId,
     object: TreeId,
-) -> Result<Node, Stop>
+) -> Result<TreeId, Stop>
     requires ready { Q.is_ready questions.now }
-    requires callee { IsNodeHeld state.old callee }
     requires of { of.0 < length (state.old).types }
-    requires base { base.0 < length (state.old).types }
+    requires to { to.0 < length (state.old).types }
     requires object { object.0 < length (trees state.old) }
-    ensures { IsAnswered node_tree IsNodeHeld state.old state.new result (definition.base_converted (Q.asks questions.now) (node_tree state.old callee) (type_of state.old of) (type_of state.old base) (tree state.old object) (meaning state.old)) }
+    ensures { IsAnswered tree IsTreeKnown state.old state.new result (converting.convert (Q.asks questions.now) place (definition.base_reference (type_of state.old of) (type_of state.old to)) (tree state.old object) (meaning state.old)) }
 {
-    let reference = base_reference(state, of, base)?;
-    base_bound(alloc, questions, state, callee, reference, object)
+    let reference = base_reference(state, of, to)?;
+    convert(alloc, questions, state, place, reference, object)
 }
 
-fn is_lvalue(state: &State, number: TreeId) -> bool
+// Whether a value is one of an object (3.10).
+pub(crate) fn is_lvalue(state: &State, number: TreeId) -> bool
     requires { number.0 < length (trees state.now) }
     ensures { result ≡ (operand_of (tree state.now number)).lvalue }
 {
@@ -231,110 +141,383 @@ fn is_lvalue(state: &State, number: TreeId) -> bool
     }
 }
 
-// That of a value is not written yet.
+/// An object of one class has one subobject of another (10.2).
+pub(crate) fn has_one(
+    alloc: Global,
+    state: &State,
+    place: Place,
+    from: TypeId,
+    to: TypeId,
+) -> Result<(), Stop>
+    requires from { from.0 < length (state.now).types }
+    requires to { to.0 < length (state.now).types }
+    ensures { Gives (λ done. done) result (one_base_of (meaning state.now).graph place (object_operand (type_of state.now from)) (type_of state.now to)) }
+{
+    let object = Operand {
+        of: from,
+        lvalue: true,
+        constant: ConstantKind::No,
+    };
+    one_base(alloc, state, place, object, to)
+}
+
+// ---- whether an object is one of a class
+
+// Whether the class of a type is that of another, or derived from it, where both are classes (10).
+fn is_within(alloc: Global, state: &State, from: TypeId, to: TypeId) -> Result<bool, OutOfMemory>
+    requires from { from.0 < length (state.now).types }
+    requires to { to.0 < length (state.now).types }
+    ensures { Computes result (definition.is_same_or_base (meaning state.now).graph (definition.class_of (type_of state.now from)) (definition.class_of (type_of state.now to))) }
+{
+    match class_of_type(state, from) {
+        None => Ok(true),
+        Some(one) => match class_of_type(state, to) {
+            None => Ok(true),
+            Some(other) => {
+                if one.0 == other.0 {
+                    Ok(true)
+                } else {
+                    is_derived_from(alloc, state, one, other)
+                }
+            }
+        },
+    }
+}
+
+/// An object of one class is one of another, which is the same or a base (5.2.5).
+pub(crate) fn within(
+    alloc: Global,
+    state: &State,
+    place: Place,
+    from: TypeId,
+    to: Option<TypeId>,
+) -> Result<(), Stop>
+    requires from { from.0 < length (state.now).types }
+    requires to { IsTypeNumberBelow (length (state.now).types) to }
+    ensures { Gives (λ done. done) result (definition.within (meaning state.now).graph place (type_of state.now from) (type_of_option (state.now).types to)) }
+{
+    match to {
+        None => Ok(()),
+        Some(to) => match is_within(alloc, state, from, to) {
+            Ok(true) => Ok(()),
+            Ok(false) => Err(Stop::Fault(no_fit(alloc, place)?)),
+            Err(_) => Err(Stop::OutOfMemory),
+        },
+    }
+}
+
+/// A member that is the same for each object is one of the class that is written before it, or of the object's own, and of the
+/// class that declares it (5.2.5, 9.4).
+pub(crate) fn shared(
+    alloc: Global,
+    state: &State,
+    place: Place,
+    of: TypeId,
+    class: Option<TypeId>,
+    declared: Option<TypeId>,
+) -> Result<(), Stop>
+    requires of { of.0 < length (state.now).types }
+    requires class { IsTypeNumberBelow (length (state.now).types) class }
+    requires declared { IsTypeNumberBelow (length (state.now).types) declared }
+    ensures { Gives (λ done. done) result (definition.shared (meaning state.now).graph place (type_of state.now of) (type_of_option (state.now).types class) (type_of_option (state.now).types declared)) }
+{
+    within(alloc, state, place, of, class)?;
+    within(alloc, state, place, or_own(class, of), declared)
+}
+
+// A value is as it is, where it has one such subobject.
 #[tactic(auto, using(cxx_expr::proofs::Kept::later_refl))]
-fn base_of_object<Q: Questions>(
+fn kept_by(
+    alloc: Global,
+    state: &State,
+    place: Place,
+    from: TypeId,
+    to: TypeId,
+    object: TreeId,
+) -> Result<TreeId, Stop>
+    requires from { from.0 < length (state.now).types }
+    requires to { to.0 < length (state.now).types }
+    requires object { object.0 < length (trees state.now) }
+    ensures { IsAnswered tree IsTreeKnown state.now state.now result (definition.kept_by (tree state.now object) (meaning state.now) (one_base_of (meaning state.now).graph place (object_operand (type_of state.now from)) (type_of state.now to))) }
+{
+    has_one(alloc, state, place, from, to)?;
+    Ok(object)
+}
+
+// An object is converted.
+#[tactic(auto, using(cxx_expr::proofs::Kept::later_refl))]
+fn stepped<Q: Questions>(
     alloc: Global,
     questions: &Q,
     state: &mut State,
-    callee: Node,
+    place: Place,
     of: TypeId,
-    base: TypeId,
+    from: TypeId,
+    to: TypeId,
     object: TreeId,
-) -> Result<Node, Stop>
+) -> Result<TreeId, Stop>
     requires ready { Q.is_ready questions.now }
-    requires callee { IsNodeHeld state.old callee }
     requires of { of.0 < length (state.old).types }
-    requires base { base.0 < length (state.old).types }
+    requires from { from.0 < length (state.old).types }
+    requires to { to.0 < length (state.old).types }
     requires object { object.0 < length (trees state.old) }
-    ensures { IsAnswered node_tree IsNodeHeld state.old state.new result (definition.base_of_object (Q.asks questions.now) (node_tree state.old callee) (type_of state.old of) (type_of state.old base) (tree state.old object) (meaning state.old)) }
+    ensures { IsAnswered tree IsTreeKnown state.old state.new result (definition.stepped (Q.asks questions.now) place (type_of state.old of) (type_of state.old from) (type_of state.old to) (tree state.old object) (meaning state.old)) }
 {
     if is_lvalue(state, object) {
-        return base_converted(alloc, questions, state, callee, of, base, object);
+        return converted_to(alloc, questions, state, place, of, to, object);
     }
-    Err(Stop::Fault(not_built_at(alloc, place_in(&callee))?))
+    kept_by(alloc, state, place, from, to, object)
 }
 
-#[tactic(auto, using(cxx_expr::proofs::Kept::later_trans, cxx_expr::proofs::NodeKept::node_later, cxx_expr::proofs::NodeKept::node_kept, cxx_expr::proofs::Kept::type_later, cxx_expr::proofs::Kept::type_kept))]
-fn based_over<Q: Questions>(
+// Given both classes.
+#[tactic(auto, using(cxx_expr::proofs::Kept::later_refl))]
+fn step_between<Q: Questions>(
+    alloc: Global,
+    questions: &Q,
+    state: &mut State,
+    place: Place,
+    of: TypeId,
+    from: TypeId,
+    to: TypeId,
+    one: ClassId,
+    other: ClassId,
+    object: TreeId,
+) -> Result<TreeId, Stop>
+    requires ready { Q.is_ready questions.now }
+    requires of { of.0 < length (state.old).types }
+    requires from { from.0 < length (state.old).types }
+    requires to { to.0 < length (state.old).types }
+    requires one { one.0 < length (state.old).graph.classes }
+    requires other { other.0 < length (state.old).graph.classes }
+    requires object { object.0 < length (trees state.old) }
+    ensures { IsAnswered tree IsTreeKnown state.old state.new result (definition.step_between (Q.asks questions.now) place (type_of state.old of) (type_of state.old from) (type_of state.old to) one.0 other.0 (tree state.old object) (meaning state.old)) }
+{
+    if one.0 == other.0 {
+        return Ok(object);
+    }
+    match is_derived_from(alloc, state, one, other) {
+        Ok(true) => stepped(alloc, questions, state, place, of, from, to, object),
+        Ok(false) => Err(Stop::Fault(no_fit(alloc, place)?)),
+        Err(_) => Err(Stop::OutOfMemory),
+    }
+}
+
+/// An object of a type, as one of the class of a second type, as one of that of a third: the same, or a base (5.2.5, 10.2).
+#[tactic(auto, using(cxx_expr::proofs::Kept::later_refl), unfolding(cxx_expr::specs::Steps::step))]
+pub(crate) fn step<Q: Questions>(
+    alloc: Global,
+    questions: &Q,
+    state: &mut State,
+    place: Place,
+    of: TypeId,
+    from: TypeId,
+    to: TypeId,
+    object: TreeId,
+) -> Result<TreeId, Stop>
+    requires ready { Q.is_ready questions.now }
+    requires of { of.0 < length (state.old).types }
+    requires from { from.0 < length (state.old).types }
+    requires to { to.0 < length (state.old).types }
+    requires object { object.0 < length (trees state.old) }
+    ensures { IsAnswered tree IsTreeKnown state.old state.new result (definition.step (Q.asks questions.now) place (type_of state.old of) (type_of state.old from) (type_of state.old to) (tree state.old object) (meaning state.old)) }
+{
+    match class_of_type(state, from) {
+        None => Ok(object),
+        Some(one) => match class_of_type(state, to) {
+            None => Ok(object),
+            Some(other) => step_between(
+                alloc, questions, state, place, of, from, to, one, other, object,
+            ),
+        },
+    }
+}
+
+// The same, where there is a class to which it leads.
+#[tactic(auto, using(cxx_expr::proofs::Kept::later_refl))]
+fn step_to<Q: Questions>(
+    alloc: Global,
+    questions: &Q,
+    state: &mut State,
+    place: Place,
+    of: TypeId,
+    from: TypeId,
+    class: Option<TypeId>,
+    object: TreeId,
+) -> Result<TreeId, Stop>
+    requires ready { Q.is_ready questions.now }
+    requires of { of.0 < length (state.old).types }
+    requires from { from.0 < length (state.old).types }
+    requires class { IsTypeNumberBelow (length (state.old).types) class }
+    requires object { object.0 < length (trees state.old) }
+    ensures { IsAnswered tree IsTreeKnown state.old state.new result (definition.step_to (Q.asks questions.now) place (type_of state.old of) (type_of state.old from) (type_of_option (state.old).types class) (tree state.old object) (meaning state.old)) }
+{
+    match class {
+        None => Ok(object),
+        Some(to) => step(alloc, questions, state, place, of, from, to, object),
+    }
+}
+
+// ---- the object of a function
+
+// As one of the class that declares the function.
+#[tactic(auto, using(cxx_expr::proofs::NodeKept::node_later, cxx_expr::proofs::NodeKept::node_kept, cxx_expr::proofs::Kept::type_later, cxx_expr::proofs::Kept::type_kept, crate::proofs::Chosen::object_later, crate::proofs::Chosen::object_kept), unfolding(crate::specs::Tails::based_second))]
+fn based_second<Q: Questions>(
     alloc: Global,
     questions: &Q,
     state: &mut State,
     callee: Node,
     of: TypeId,
-    base: TypeId,
-    one: TreeId,
+    class: Option<TypeId>,
+    declared: Option<TypeId>,
+    is_lvalue: bool,
+    first: TreeId,
 ) -> Result<Node, Stop>
     requires ready { Q.is_ready questions.now }
     requires callee { IsNodeHeld state.old callee }
     requires of { of.0 < length (state.old).types }
-    requires base { base.0 < length (state.old).types }
-    requires one { one.0 < length (trees state.old) }
-    ensures { IsAnswered node_tree IsNodeHeld state.old state.new result (definition.based_over (Q.asks questions.now) (node_tree state.old callee) (type_of state.old of) (type_of state.old base) (Some (tree state.old one)) (meaning state.old)) }
+    requires class { IsTypeNumberBelow (length (state.old).types) class }
+    requires declared { IsTypeNumberBelow (length (state.old).types) declared }
+    requires first { first.0 < length (trees state.old) }
+    ensures { IsAnswered node_tree IsNodeHeld state.old state.new result (tails.based_second (Q.asks questions.now) (node_tree state.old callee) (type_of state.old of) (type_of_option (state.old).types class) (type_of_option (state.old).types declared) is_lvalue (tree state.old first) (meaning state.old)) }
 {
-    let object = object_called(alloc, state, &callee, of, one)?;
-    base_of_object(alloc, questions, state, callee, of, base, object)
+    let place = place_in(&callee);
+    let from = or_own(class, of);
+    let second = step_to(alloc, questions, state, place, of, from, declared, first)?;
+    let before = class_before(state, is_lvalue, of, class, declared);
+    Ok(member_over(alloc, state, callee, second, before)?)
 }
 
-#[tactic(auto, using(cxx_expr::proofs::Kept::later_refl))]
+// As one of the class that is written before it.
+#[tactic(auto, using(cxx_expr::proofs::Kept::later_trans, cxx_expr::proofs::NodeKept::node_later, cxx_expr::proofs::NodeKept::node_kept, cxx_expr::proofs::Kept::type_later, cxx_expr::proofs::Kept::type_kept, crate::proofs::Chosen::object_later, crate::proofs::Chosen::object_kept), unfolding(cxx_expr::specs::Calls::based_on, crate::specs::Tails::based_second))]
 fn based_on<Q: Questions>(
     alloc: Global,
     questions: &Q,
     state: &mut State,
     callee: Node,
     of: TypeId,
-    base: TypeId,
+    class: Option<TypeId>,
+    declared: Option<TypeId>,
+    object: TreeId,
 ) -> Result<Node, Stop>
     requires ready { Q.is_ready questions.now }
     requires callee { IsNodeHeld state.old callee }
     requires of { of.0 < length (state.old).types }
-    requires base { base.0 < length (state.old).types }
-    ensures { IsAnswered node_tree IsNodeHeld state.old state.new result (definition.based_by (Q.asks questions.now) (node_tree state.old callee) (type_of state.old of) (Some (type_of state.old base)) (meaning state.old)) }
+    requires class { IsTypeNumberBelow (length (state.old).types) class }
+    requires declared { IsTypeNumberBelow (length (state.old).types) declared }
+    requires object { object.0 < length (trees state.old) }
+    ensures { IsAnswered node_tree IsNodeHeld state.old state.new result (calls.based_on (Q.asks questions.now) (node_tree state.old callee) (type_of state.old of) (type_of_option (state.old).types class) (type_of_option (state.old).types declared) (tree state.old object) (meaning state.old)) }
 {
-    match only_child(state, &callee) {
-        None => Err(Stop::Fault(misshapen(alloc, callee.start)?)),
-        Some(one) => based_over(alloc, questions, state, callee, of, base, one),
-    }
+    let place = place_in(&callee);
+    let is_lvalue = is_lvalue(state, object);
+    let first = step_to(alloc, questions, state, place, of, of, class, object)?;
+    based_second(
+        alloc, questions, state, callee, of, class, declared, is_lvalue, first,
+    )
 }
 
-// Given the class of the base.
-#[tactic(auto, using(cxx_expr::proofs::NodeKept::node_later, cxx_expr::proofs::Kept::type_later, crate::proofs::Based::based_in_is))]
-fn based_in<Q: Questions>(
+#[tactic(auto, using(cxx_expr::proofs::Kept::later_trans, cxx_expr::proofs::NodeKept::node_later, cxx_expr::proofs::NodeKept::node_kept, cxx_expr::proofs::Kept::type_later, cxx_expr::proofs::Kept::type_kept, crate::proofs::Chosen::object_later, crate::proofs::Chosen::object_kept))]
+fn based_over<Q: Questions>(
     alloc: Global,
     questions: &Q,
     state: &mut State,
     callee: Node,
     of: TypeId,
-    class: ClassId,
+    class: Option<TypeId>,
+    declared: Option<TypeId>,
+    one: TreeId,
 ) -> Result<Node, Stop>
     requires ready { Q.is_ready questions.now }
     requires callee { IsNodeHeld state.old callee }
     requires of { of.0 < length (state.old).types }
-    requires class { class.0 < length (state.old).graph.classes }
-    ensures { IsAnswered node_tree IsNodeHeld state.old state.new result (definition.based_by (Q.asks questions.now) (node_tree state.old callee) (type_of state.old of) (Some (class_type class.0)) (meaning state.old)) }
+    requires class { IsTypeNumberBelow (length (state.old).types) class }
+    requires declared { IsTypeNumberBelow (length (state.old).types) declared }
+    requires one { one.0 < length (trees state.old) }
+    ensures { IsAnswered node_tree IsNodeHeld state.old state.new result (calls.based_by (Q.asks questions.now) (node_tree state.old callee) (type_of state.old of) (type_of_option (state.old).types class) (type_of_option (state.old).types declared) (Some (tree state.old one)) (meaning state.old)) }
 {
-    let base = type_of_class(state, class)?;
-    based_on(alloc, questions, state, callee, of, base)
+    let object = object_called(alloc, state, &callee, of, one)?;
+    based_on(alloc, questions, state, callee, of, class, declared, object)
 }
 
-/// What is called, once it is known which function that is: one of a base is called for that base of the object
-/// (13.3.1.1.1).
-#[tactic(auto, using(cxx_expr::proofs::Kept::later_refl), unfolding(cxx_expr::specs::Calls::based))]
+// Behind a class, for a static function.
+fn static_named(state: &State, callee: Node, class: Option<TypeId>) -> Node
+    requires callee { IsNodeHeld state.now callee }
+    requires class { IsTypeNumberBelow (length (state.now).types) class }
+    ensures is { node_tree state.now result ≡ calls.qualified (node_tree state.now callee) (type_of_option (state.now).types class) }
+    ensures held { IsNodeHeld state.now result }
+{
+    let _ = state;
+    let mut callee = callee;
+    callee.of = class;
+    callee
+}
+
+// The same, where that is one of the object's class.
+#[tactic(auto, using(cxx_expr::proofs::Kept::later_refl))]
+fn static_over(
+    alloc: Global,
+    state: &State,
+    callee: Node,
+    of: TypeId,
+    class: Option<TypeId>,
+    declared: Option<TypeId>,
+) -> Result<Node, Stop>
+    requires callee { IsNodeHeld state.now callee }
+    requires of { of.0 < length (state.now).types }
+    requires class { IsTypeNumberBelow (length (state.now).types) class }
+    requires declared { IsTypeNumberBelow (length (state.now).types) declared }
+    ensures { IsAnswered node_tree IsNodeHeld state.now state.now result (calls.static_over (node_tree state.now callee) (type_of state.now of) (type_of_option (state.now).types class) (type_of_option (state.now).types declared) (meaning state.now)) }
+{
+    shared(alloc, state, place_in(&callee), of, class, declared)?;
+    let before = class_before(state, false, of, class, declared);
+    Ok(static_named(state, callee, before))
+}
+
+// Given the class that declares the function.
+#[tactic(auto, using(cxx_expr::proofs::Kept::later_refl))]
+fn based_to<Q: Questions>(
+    alloc: Global,
+    questions: &Q,
+    state: &mut State,
+    callee: Node,
+    of: TypeId,
+    class: Option<TypeId>,
+    declared: Option<TypeId>,
+    target: FactId,
+) -> Result<Node, Stop>
+    requires ready { Q.is_ready questions.now }
+    requires callee { IsNodeHeld state.old callee }
+    requires of { of.0 < length (state.old).types }
+    requires class { IsTypeNumberBelow (length (state.old).types) class }
+    requires declared { IsTypeNumberBelow (length (state.old).types) declared }
+    ensures { IsAnswered node_tree IsNodeHeld state.old state.new result (tails.based_to (Q.asks questions.now) (node_tree state.old callee) (type_of state.old of) (type_of_option (state.old).types class) (type_of_option (state.old).types declared) target.0 (meaning state.old)) }
+{
+    if is_static_at(state, target) {
+        return static_over(alloc, state, callee, of, class, declared);
+    }
+    match only_child(state, &callee) {
+        None => Err(Stop::Fault(misshapen(alloc, callee.start)?)),
+        Some(one) => based_over(alloc, questions, state, callee, of, class, declared, one),
+    }
+}
+
+/// What is called, once it is known which function that is, given the class that is written before it: its object as one of
+/// that class and of the one that declares the function (13.3.1.1.1).
+#[tactic(auto, using(cxx_expr::proofs::Kept::later_trans, cxx_expr::proofs::NodeKept::node_later, cxx_expr::proofs::NodeKept::node_kept, cxx_expr::proofs::Kept::type_later, cxx_expr::proofs::Kept::type_kept, crate::proofs::Chosen::object_later, crate::proofs::Chosen::object_kept), unfolding(cxx_expr::specs::Calls::based))]
 pub(crate) fn based<Q: Questions>(
     alloc: Global,
     questions: &Q,
     state: &mut State,
     callee: Node,
     of: TypeId,
+    class: Option<TypeId>,
     target: FactId,
 ) -> Result<Node, Stop>
     requires ready { Q.is_ready questions.now }
     requires callee { IsNodeHeld state.old callee }
     requires of { of.0 < length (state.old).types }
-    ensures { IsAnswered node_tree IsNodeHeld state.old state.new result (definition.based (Q.asks questions.now) (node_tree state.old callee) (type_of state.old of) target.0 (meaning state.old)) }
+    requires class { IsTypeNumberBelow (length (state.old).types) class }
+    ensures { IsAnswered node_tree IsNodeHeld state.old state.new result (calls.based (Q.asks questions.now) (node_tree state.old callee) (type_of state.old of) (type_of_option (state.old).types class) target.0 (meaning state.old)) }
 {
-    match base_declaring(state, of, target) {
-        None => Ok(callee),
-        Some(class) => based_in(alloc, questions, state, callee, of, class),
-    }
+    let declared = declaring(state, target)?;
+    based_to(alloc, questions, state, callee, of, class, declared, target)
 }

@@ -10,7 +10,7 @@ ghost use Rattle.cxx_model.specs.Types.Trees.{CxxType, class_type};
 ghost use Rattle.cxx_meaning.specs.Lookups.Wanted as wanted;
 ghost use Rattle.cxx_tree.specs.Answered.{IsAnswered};
 ghost use Rattle.cxx_reading.specs.Plain.{target_or};
-ghost use Rattle.cxx_this.specs.This.{class_or_none};
+ghost use Rattle.cxx_this.specs.This.{class_at, class_or_none};
 ghost use Rattle.cxx_tree.specs.Arena.{label_at, number_of_option, path_at};
 ghost use Rattle.cxx_tree.specs.Held.{Held, meaning, tree, trees, type_of};
 ghost use Rattle.cxx_expr.specs.Calls as definition;
@@ -25,11 +25,13 @@ ghost use Rattle.cxx_called.specs.Tails.{GrowsNode, IsFirstSplit, first_split};
 ghost use Rattle.cxx_called.specs.Views.{asked_of, IsFoundBelow, IsSignatureBelow, found_signature, signature_at};
 
 use crate::bases::based;
+use crate::classes::{qualified, written};
 use crate::facts::{fact_at, is_function, values_among};
 use crate::implied::{named_here, object_for, object_tree};
-use crate::members::{class_of_type, declared_member};
+use crate::members::{class_of_type, declared_member, naming};
 use crate::names::{declared, is_plain, means_object, no_path, place_in, type_of_class, word_in};
 use crate::signatures::{Signature, called_signature, fits_count};
+use cxx_cursor::joined;
 use cxx_expr::conditional::is_of_class;
 use cxx_expr::converting::{convert_each, push};
 use cxx_expr::faults::{fault, not_built_at};
@@ -171,30 +173,40 @@ fn chosen_as(
     }
 }
 
-// Once the arguments are converted.
-#[tactic(auto, using(cxx_expr::proofs::Kept::later_trans, cxx_expr::proofs::NodeKept::node_later, cxx_expr::proofs::NodeKept::node_kept, crate::proofs::Chosen::chosen_later, crate::proofs::Chosen::chosen_kept, crate::proofs::Signed::types_length), unfolding(crate::specs::Tails::filled))]
-fn filled<Q: Questions>(
+// Once the default arguments behind the arguments are there.
+#[tactic(auto, using(cxx_expr::proofs::Kept::later_trans, cxx_expr::proofs::NodeKept::node_later, cxx_expr::proofs::NodeKept::node_kept, cxx_expr::proofs::Kept::trees_later, cxx_expr::proofs::Kept::trees_kept, cxx_expr::proofs::Kept::trees_more, cxx_expr::proofs::Kept::trees_below_more, crate::proofs::Chosen::chosen_later, crate::proofs::Chosen::chosen_kept), unfolding(crate::specs::Tails::converted))]
+fn converted<Q: Questions>(
+    alloc: Global,
     questions: &Q,
     state: &mut State,
     node: Node,
-    count: usize,
+    arguments: &[TreeId],
     chosen: &Chosen,
-    given: TreeIdList,
+    behind: TreeIdList,
 ) -> Result<TreeId, Stop>
     requires ready { Q.is_ready questions.now }
     requires node { IsNodeHeld state.old node }
+    requires arguments { AreTreesHeld state.old arguments.now }
     requires chosen { IsChosen state.old chosen.now }
-    requires given { AreTreesHeld state.old given }
-    ensures { IsAnswered tree IsTreeKnown state.old state.new result (tails.filled (Q.asks questions.now) (node_tree state.old node) count (chosen_of state.old chosen.now) (trees_held state.old given) (meaning state.old)) }
+    requires behind { AreTreesHeld state.old behind }
+    ensures { IsAnswered tree IsTreeKnown state.old state.new result (tails.converted (Q.asks questions.now) (node_tree state.old node) (trees_held state.old arguments.now) (chosen_of state.old chosen.now) (trees_held state.old behind) (meaning state.old)) }
 {
-    let end = chosen.parameters.len();
-    let all = left_out(questions, state, &node, chosen.target, count, given, end)?;
+    let given = convert_each(
+        alloc,
+        questions,
+        state,
+        node.place,
+        chosen.parameters.as_slice(),
+        Listed::new(alloc),
+        arguments,
+    )?;
+    let all = joined(given, behind)?;
     chosen_as(state, node, chosen, all)
 }
 
 // Once the function is noted.
-#[tactic(auto, using(cxx_expr::proofs::Kept::later_trans, cxx_expr::proofs::NodeKept::node_later, cxx_expr::proofs::NodeKept::node_kept, crate::proofs::Chosen::chosen_later, crate::proofs::Chosen::chosen_kept, crate::proofs::Signed::trees_length), unfolding(crate::specs::Tails::converted))]
-fn converted<Q: Questions>(
+#[tactic(auto, using(cxx_expr::proofs::Kept::later_trans, cxx_expr::proofs::NodeKept::node_later, cxx_expr::proofs::NodeKept::node_kept, cxx_expr::proofs::Kept::trees_later, cxx_expr::proofs::Kept::trees_kept, crate::proofs::Chosen::chosen_later, crate::proofs::Chosen::chosen_kept, crate::proofs::Signed::types_length, crate::proofs::Signed::trees_length), unfolding(crate::specs::Tails::filled, crate::specs::Tails::converted))]
+fn filled<Q: Questions>(
     alloc: Global,
     questions: &Q,
     state: &mut State,
@@ -206,22 +218,17 @@ fn converted<Q: Questions>(
     requires node { IsNodeHeld state.old node }
     requires arguments { AreTreesHeld state.old arguments.now }
     requires chosen { IsChosen state.old chosen.now }
-    ensures { IsAnswered tree IsTreeKnown state.old state.new result (tails.converted (Q.asks questions.now) (node_tree state.old node) (trees_held state.old arguments.now) (chosen_of state.old chosen.now) (meaning state.old)) }
+    ensures { IsAnswered tree IsTreeKnown state.old state.new result (tails.filled (Q.asks questions.now) (node_tree state.old node) (trees_held state.old arguments.now) (chosen_of state.old chosen.now) (meaning state.old)) }
 {
-    let given = convert_each(
-        alloc,
-        questions,
-        state,
-        node.place,
-        chosen.parameters.as_slice(),
-        Listed::new(alloc),
-        arguments,
-    )?;
-    filled(questions, state, node, arguments.len(), chosen, given)
+    let count = arguments.len();
+    let end = chosen.parameters.len();
+    let none = Listed::new(alloc);
+    let behind = left_out(questions, state, &node, chosen.target, count, none, end)?;
+    converted(alloc, questions, state, node, arguments, chosen, behind)
 }
 
 // What the call is once it is known which function it means.
-#[tactic(auto, using(cxx_expr::proofs::Kept::later_trans, cxx_expr::proofs::NodeKept::node_later, cxx_expr::proofs::NodeKept::node_kept, cxx_expr::proofs::Kept::trees_later, cxx_expr::proofs::Kept::trees_kept, crate::proofs::Chosen::chosen_later, crate::proofs::Chosen::chosen_kept), unfolding(cxx_expr::specs::Calls::chosen_call, crate::specs::Tails::converted, crate::specs::Tails::filled))]
+#[tactic(auto, using(cxx_expr::proofs::Kept::later_trans, cxx_expr::proofs::NodeKept::node_later, cxx_expr::proofs::NodeKept::node_kept, cxx_expr::proofs::Kept::trees_later, cxx_expr::proofs::Kept::trees_kept, crate::proofs::Chosen::chosen_later, crate::proofs::Chosen::chosen_kept), unfolding(cxx_expr::specs::Calls::chosen_call, crate::specs::Tails::filled, crate::specs::Tails::converted))]
 fn chosen_call<Q: Questions>(
     alloc: Global,
     questions: &Q,
@@ -237,7 +244,7 @@ fn chosen_call<Q: Questions>(
     ensures { IsAnswered tree IsTreeKnown state.old state.new result (definition.chosen_call (Q.asks questions.now) (node_tree state.old node) (trees_held state.old arguments.now) (chosen_of state.old chosen) (meaning state.old)) }
 {
     questions.bound(state, node.place, chosen.target)?;
-    converted(alloc, questions, state, node, arguments, &chosen)
+    filled(alloc, questions, state, node, arguments, &chosen)
 }
 
 #[tactic(auto, using(crate::proofs::Judged::operands_more, crate::proofs::Judged::operands_below_more, crate::proofs::Judged::operands_kept, crate::proofs::Judged::operands_later))]
@@ -616,7 +623,7 @@ fn called_first<Q: Questions>(
             let fact = fact_at(state, *one);
             let (scope, what) = (fact.scope, fact.what);
             if is_called(state, what) {
-                let class = class_called(state, &node, scope);
+                let class = class_called(state, scope);
                 functions_called(
                     alloc, questions, state, node, values, arguments, scope, class,
                 )
@@ -820,48 +827,26 @@ fn name_alone(alloc: Global, node: &Node) -> Result<Path, AllocError>
     })
 }
 
-// Once the arguments are converted.
-#[tactic(auto, using(cxx_expr::proofs::Kept::later_trans, cxx_expr::proofs::NodeKept::node_later, cxx_expr::proofs::NodeKept::node_kept, crate::proofs::Chosen::chosen_later, crate::proofs::Chosen::chosen_kept, crate::proofs::Signed::types_length), unfolding(cxx_expr::specs::Calls::member_filled))]
-fn member_filled<Q: Questions>(
-    questions: &Q,
-    state: &mut State,
-    node: Node,
-    place: Place,
-    path: &Path,
-    count: usize,
-    chosen: &Chosen,
-    parts: TreeIdList,
-) -> Result<TreeId, Stop>
-    requires ready { Q.is_ready questions.now }
-    requires node { IsNodeHeld state.old node }
-    requires chosen { IsChosen state.old chosen.now }
-    requires parts { AreTreesHeld state.old parts }
-    ensures { IsAnswered tree IsTreeKnown state.old state.new result (definition.member_filled (Q.asks questions.now) (node_tree state.old node) place (path_at path.now) count (chosen_of state.old chosen.now) (trees_held state.old parts) (meaning state.old)) }
-{
-    let end = chosen.parameters.len();
-    let all = fallbacks(questions, state, path, chosen.target, count, parts, end)?;
-    member_call_tree(state, node, place, chosen, all)
-}
-
 // Once what is called is known as a tree.
-#[tactic(auto, using(cxx_expr::proofs::Kept::later_trans, cxx_expr::proofs::NodeKept::node_later, cxx_expr::proofs::NodeKept::node_kept, crate::proofs::Chosen::chosen_later, crate::proofs::Chosen::chosen_kept, crate::proofs::Signed::trees_length), unfolding(cxx_expr::specs::Calls::member_converted))]
+#[tactic(auto, using(cxx_expr::proofs::Kept::later_trans, cxx_expr::proofs::NodeKept::node_later, cxx_expr::proofs::NodeKept::node_kept, cxx_expr::proofs::Kept::trees_later, cxx_expr::proofs::Kept::trees_kept, cxx_expr::proofs::Kept::trees_more, cxx_expr::proofs::Kept::trees_below_more, crate::proofs::Chosen::chosen_later, crate::proofs::Chosen::chosen_kept), unfolding(cxx_expr::specs::Calls::member_converted))]
 fn member_converted<Q: Questions>(
     alloc: Global,
     questions: &Q,
     state: &mut State,
     node: Node,
     place: Place,
-    path: &Path,
     callee: TreeId,
     arguments: &[TreeId],
     chosen: &Chosen,
+    behind: TreeIdList,
 ) -> Result<TreeId, Stop>
     requires ready { Q.is_ready questions.now }
     requires node { IsNodeHeld state.old node }
     requires callee { callee.0 < length (trees state.old) }
     requires arguments { AreTreesHeld state.old arguments.now }
     requires chosen { IsChosen state.old chosen.now }
-    ensures { IsAnswered tree IsTreeKnown state.old state.new result (definition.member_converted (Q.asks questions.now) (node_tree state.old node) place (path_at path.now) (tree state.old callee) (trees_held state.old arguments.now) (chosen_of state.old chosen.now) (meaning state.old)) }
+    requires behind { AreTreesHeld state.old behind }
+    ensures { IsAnswered tree IsTreeKnown state.old state.new result (definition.member_converted (Q.asks questions.now) (node_tree state.old node) place (tree state.old callee) (trees_held state.old arguments.now) (chosen_of state.old chosen.now) (trees_held state.old behind) (meaning state.old)) }
 {
     let before = listed_one(alloc, callee)?;
     let parts = convert_each(
@@ -873,19 +858,11 @@ fn member_converted<Q: Questions>(
         before,
         arguments,
     )?;
-    member_filled(
-        questions,
-        state,
-        node,
-        place,
-        path,
-        arguments.len(),
-        chosen,
-        parts,
-    )
+    let all = joined(parts, behind)?;
+    member_call_tree(state, node, place, chosen, all)
 }
 
-// Once the function is noted, and its object is that of its class.
+// Once the object of what is called is that of its class.
 #[tactic(auto, using(cxx_expr::proofs::Kept::later_trans, cxx_expr::proofs::NodeKept::node_later, cxx_expr::proofs::NodeKept::node_kept, cxx_expr::proofs::Kept::trees_later, cxx_expr::proofs::Kept::trees_kept, crate::proofs::Chosen::chosen_later, crate::proofs::Chosen::chosen_kept))]
 fn member_meant<Q: Questions>(
     alloc: Global,
@@ -895,23 +872,24 @@ fn member_meant<Q: Questions>(
     callee: Node,
     arguments: &[TreeId],
     chosen: &Chosen,
+    behind: TreeIdList,
 ) -> Result<TreeId, Stop>
     requires ready { Q.is_ready questions.now }
     requires node { IsNodeHeld state.old node }
     requires callee { IsNodeHeld state.old callee }
     requires arguments { AreTreesHeld state.old arguments.now }
     requires chosen { IsChosen state.old chosen.now }
-    ensures { IsAnswered tree IsTreeKnown state.old state.new result (definition.member_meant (Q.asks questions.now) (node_tree state.old node) (node_tree state.old callee) (trees_held state.old arguments.now) (chosen_of state.old chosen.now) (meaning state.old)) }
+    requires behind { AreTreesHeld state.old behind }
+    ensures { IsAnswered tree IsTreeKnown state.old state.new result (definition.member_meant (Q.asks questions.now) (node_tree state.old node) (node_tree state.old callee) (trees_held state.old arguments.now) (chosen_of state.old chosen.now) (trees_held state.old behind) (meaning state.old)) }
 {
     let place = place_in(&callee);
-    let path = name_alone(alloc, &callee)?;
     let callee = callee_as(state, callee, chosen)?;
     member_converted(
-        alloc, questions, state, node, place, &path, callee, arguments, chosen,
+        alloc, questions, state, node, place, callee, arguments, chosen, behind,
     )
 }
 
-// Once the function is noted: one of a base is called for that base of the object.
+// Once the default arguments are there: the object is one of the class that is written and of the one that declares it.
 #[tactic(auto, using(cxx_expr::proofs::Kept::later_trans, cxx_expr::proofs::NodeKept::node_later, cxx_expr::proofs::NodeKept::node_kept, cxx_expr::proofs::Kept::trees_later, cxx_expr::proofs::Kept::trees_kept, crate::proofs::Chosen::chosen_later, crate::proofs::Chosen::chosen_kept), unfolding(crate::specs::Tails::member_based))]
 fn member_based<Q: Questions>(
     alloc: Global,
@@ -920,6 +898,37 @@ fn member_based<Q: Questions>(
     node: Node,
     callee: Node,
     of: TypeId,
+    class: Option<TypeId>,
+    arguments: &[TreeId],
+    chosen: &Chosen,
+    behind: TreeIdList,
+) -> Result<TreeId, Stop>
+    requires ready { Q.is_ready questions.now }
+    requires node { IsNodeHeld state.old node }
+    requires callee { IsNodeHeld state.old callee }
+    requires of { of.0 < length (state.old).types }
+    requires class { IsTypeNumberBelow (length (state.old).types) class }
+    requires arguments { AreTreesHeld state.old arguments.now }
+    requires chosen { IsChosen state.old chosen.now }
+    requires behind { AreTreesHeld state.old behind }
+    ensures { IsAnswered tree IsTreeKnown state.old state.new result (tails.member_based (Q.asks questions.now) (node_tree state.old node) (node_tree state.old callee) (type_of state.old of) (type_of_option (state.old).types class) (trees_held state.old arguments.now) (chosen_of state.old chosen.now) (trees_held state.old behind) (meaning state.old)) }
+{
+    let over = based(alloc, questions, state, callee, of, class, chosen.target)?;
+    member_meant(
+        alloc, questions, state, node, over, arguments, chosen, behind,
+    )
+}
+
+// Once the function is noted.
+#[tactic(auto, using(cxx_expr::proofs::Kept::later_trans, cxx_expr::proofs::NodeKept::node_later, cxx_expr::proofs::NodeKept::node_kept, cxx_expr::proofs::Kept::trees_later, cxx_expr::proofs::Kept::trees_kept, cxx_expr::proofs::Kept::type_later, cxx_expr::proofs::Kept::type_kept, crate::proofs::Chosen::object_later, crate::proofs::Chosen::object_kept, crate::proofs::Chosen::chosen_later, crate::proofs::Chosen::chosen_kept, crate::proofs::Signed::types_length, crate::proofs::Signed::trees_length), unfolding(crate::specs::Tails::member_filled, crate::specs::Tails::member_based))]
+fn member_filled<Q: Questions>(
+    alloc: Global,
+    questions: &Q,
+    state: &mut State,
+    node: Node,
+    callee: Node,
+    of: TypeId,
+    class: Option<TypeId>,
     arguments: &[TreeId],
     chosen: &Chosen,
 ) -> Result<TreeId, Stop>
@@ -927,16 +936,23 @@ fn member_based<Q: Questions>(
     requires node { IsNodeHeld state.old node }
     requires callee { IsNodeHeld state.old callee }
     requires of { of.0 < length (state.old).types }
+    requires class { IsTypeNumberBelow (length (state.old).types) class }
     requires arguments { AreTreesHeld state.old arguments.now }
     requires chosen { IsChosen state.old chosen.now }
-    ensures { IsAnswered tree IsTreeKnown state.old state.new result (tails.member_based (Q.asks questions.now) (node_tree state.old node) (node_tree state.old callee) (type_of state.old of) (trees_held state.old arguments.now) (chosen_of state.old chosen.now) (meaning state.old)) }
+    ensures { IsAnswered tree IsTreeKnown state.old state.new result (tails.member_filled (Q.asks questions.now) (node_tree state.old node) (node_tree state.old callee) (type_of state.old of) (type_of_option (state.old).types class) (trees_held state.old arguments.now) (chosen_of state.old chosen.now) (meaning state.old)) }
 {
-    let over = based(alloc, questions, state, callee, of, chosen.target)?;
-    member_meant(alloc, questions, state, node, over, arguments, chosen)
+    let path = name_alone(alloc, &callee)?;
+    let count = arguments.len();
+    let end = chosen.parameters.len();
+    let none = Listed::new(alloc);
+    let behind = fallbacks(questions, state, &path, chosen.target, count, none, end)?;
+    member_based(
+        alloc, questions, state, node, callee, of, class, arguments, chosen, behind,
+    )
 }
 
-// What the call is once it is known which function it means, given the type of the object.
-#[tactic(auto, using(cxx_expr::proofs::Kept::later_trans, cxx_expr::proofs::NodeKept::node_later, cxx_expr::proofs::NodeKept::node_kept, cxx_expr::proofs::Kept::trees_later, cxx_expr::proofs::Kept::trees_kept, cxx_expr::proofs::Kept::type_later, cxx_expr::proofs::Kept::type_kept, crate::proofs::Chosen::chosen_later, crate::proofs::Chosen::chosen_kept), unfolding(cxx_expr::specs::Calls::member_chosen, crate::specs::Tails::member_based))]
+// What the call is once it is known which function it means, given the type of the object and the class that is written.
+#[tactic(auto, using(cxx_expr::proofs::Kept::later_trans, cxx_expr::proofs::NodeKept::node_later, cxx_expr::proofs::NodeKept::node_kept, cxx_expr::proofs::Kept::trees_later, cxx_expr::proofs::Kept::trees_kept, cxx_expr::proofs::Kept::type_later, cxx_expr::proofs::Kept::type_kept, crate::proofs::Chosen::object_later, crate::proofs::Chosen::object_kept, crate::proofs::Chosen::chosen_later, crate::proofs::Chosen::chosen_kept), unfolding(cxx_expr::specs::Calls::member_chosen, crate::specs::Tails::member_filled, crate::specs::Tails::member_based))]
 fn member_chosen<Q: Questions>(
     alloc: Global,
     questions: &Q,
@@ -944,6 +960,7 @@ fn member_chosen<Q: Questions>(
     node: Node,
     callee: Node,
     of: TypeId,
+    class: Option<TypeId>,
     arguments: &[TreeId],
     chosen: Chosen,
 ) -> Result<TreeId, Stop>
@@ -951,17 +968,18 @@ fn member_chosen<Q: Questions>(
     requires node { IsNodeHeld state.old node }
     requires callee { IsNodeHeld state.old callee }
     requires of { of.0 < length (state.old).types }
+    requires class { IsTypeNumberBelow (length (state.old).types) class }
     requires arguments { AreTreesHeld state.old arguments.now }
     requires chosen { IsChosen state.old chosen }
-    ensures { IsAnswered tree IsTreeKnown state.old state.new result (definition.member_chosen (Q.asks questions.now) (node_tree state.old node) (node_tree state.old callee) (type_of state.old of) (trees_held state.old arguments.now) (chosen_of state.old chosen) (meaning state.old)) }
+    ensures { IsAnswered tree IsTreeKnown state.old state.new result (definition.member_chosen (Q.asks questions.now) (node_tree state.old node) (node_tree state.old callee) (type_of state.old of) (type_of_option (state.old).types class) (trees_held state.old arguments.now) (chosen_of state.old chosen) (meaning state.old)) }
 {
     questions.bound(state, place_in(&callee), chosen.target)?;
-    member_based(
-        alloc, questions, state, node, callee, of, arguments, &chosen,
+    member_filled(
+        alloc, questions, state, node, callee, of, class, arguments, &chosen,
     )
 }
 
-#[tactic(auto, using(cxx_expr::proofs::Kept::later_trans, cxx_expr::proofs::NodeKept::node_later, cxx_expr::proofs::NodeKept::node_kept, cxx_expr::proofs::Kept::trees_later, cxx_expr::proofs::Kept::trees_kept, cxx_expr::proofs::Kept::type_later, cxx_expr::proofs::Kept::type_kept), unfolding(cxx_expr::specs::Calls::member_function_call))]
+#[tactic(auto, using(cxx_expr::proofs::Kept::later_trans, cxx_expr::proofs::NodeKept::node_later, cxx_expr::proofs::NodeKept::node_kept, cxx_expr::proofs::Kept::trees_later, cxx_expr::proofs::Kept::trees_kept, cxx_expr::proofs::Kept::type_later, cxx_expr::proofs::Kept::type_kept, crate::proofs::Chosen::object_later, crate::proofs::Chosen::object_kept), unfolding(cxx_expr::specs::Calls::member_function_call))]
 fn member_function_call<Q: Questions>(
     alloc: Global,
     questions: &Q,
@@ -969,6 +987,7 @@ fn member_function_call<Q: Questions>(
     node: Node,
     callee: Node,
     of: TypeId,
+    class: Option<TypeId>,
     arguments: &[TreeId],
     functions: &[FactId],
 ) -> Result<TreeId, Stop>
@@ -976,12 +995,15 @@ fn member_function_call<Q: Questions>(
     requires node { IsNodeHeld state.old node }
     requires callee { IsNodeHeld state.old callee }
     requires of { of.0 < length (state.old).types }
+    requires class { IsTypeNumberBelow (length (state.old).types) class }
     requires arguments { AreTreesHeld state.old arguments.now }
     requires functions { AreFactsKnown state.old functions.now }
-    ensures { IsAnswered tree IsTreeKnown state.old state.new result (definition.member_function_call (Q.asks questions.now) (node_tree state.old node) (node_tree state.old callee) (type_of state.old of) (trees_held state.old arguments.now) (numbered state.old functions.now) (meaning state.old)) }
+    ensures { IsAnswered tree IsTreeKnown state.old state.new result (definition.member_function_call (Q.asks questions.now) (node_tree state.old node) (node_tree state.old callee) (type_of state.old of) (type_of_option (state.old).types class) (trees_held state.old arguments.now) (numbered state.old functions.now) (meaning state.old)) }
 {
     let chosen = member_question(alloc, questions, state, &callee, of, functions, arguments)?;
-    member_chosen(alloc, questions, state, node, callee, of, arguments, chosen)
+    member_chosen(
+        alloc, questions, state, node, callee, of, class, arguments, chosen,
+    )
 }
 
 // The members with the name that is called.
@@ -993,6 +1015,7 @@ fn member_among<Q: Questions>(
     node: Node,
     callee: Node,
     of: TypeId,
+    class: Option<TypeId>,
     arguments: &[TreeId],
     all: &[FactId],
 ) -> Result<TreeId, Stop>
@@ -1000,11 +1023,12 @@ fn member_among<Q: Questions>(
     requires node { IsNodeHeld state.old node }
     requires callee { IsNodeHeld state.old callee }
     requires of { of.0 < length (state.old).types }
+    requires class { IsTypeNumberBelow (length (state.old).types) class }
     requires arguments { AreTreesHeld state.old arguments.now }
     requires all { AreFactsKnown state.old all.now }
-    ensures { IsAnswered tree IsTreeKnown state.old state.new result (definition.member_among (Q.asks questions.now) (node_tree state.old node) (node_tree state.old callee) (type_of state.old of) (trees_held state.old arguments.now) (numbered state.old all.now) (meaning state.old)) }
+    ensures { IsAnswered tree IsTreeKnown state.old state.new result (definition.member_among (Q.asks questions.now) (node_tree state.old node) (node_tree state.old callee) (type_of state.old of) (type_of_option (state.old).types class) (trees_held state.old arguments.now) (numbered state.old all.now) (meaning state.old)) }
 {
-    let values = values_among(alloc, state, all)?;
+    let functions = values_among(alloc, state, all)?;
     member_function_call(
         alloc,
         questions,
@@ -1012,12 +1036,75 @@ fn member_among<Q: Questions>(
         node,
         callee,
         of,
+        class,
         arguments,
-        values.as_slice(),
+        functions.as_slice(),
     )
 }
 
-#[tactic(auto, using(cxx_expr::proofs::Kept::later_trans, cxx_expr::proofs::NodeKept::node_later, cxx_expr::proofs::NodeKept::node_kept, cxx_expr::proofs::Kept::trees_later, cxx_expr::proofs::Kept::trees_kept, cxx_expr::proofs::Kept::type_later, cxx_expr::proofs::Kept::type_kept), unfolding(cxx_expr::specs::Calls::member_in))]
+// Given the type of the class that is written before the name.
+#[tactic(auto, using(cxx_expr::proofs::Kept::later_refl, cxx_expr::proofs::Kept::later_trans, cxx_expr::proofs::NodeKept::node_later, cxx_expr::proofs::NodeKept::node_kept, cxx_expr::proofs::Kept::trees_later, cxx_expr::proofs::Kept::trees_kept, cxx_expr::proofs::Kept::type_later, cxx_expr::proofs::Kept::type_kept, crate::proofs::Chosen::object_later, crate::proofs::Chosen::object_kept))]
+fn member_behind<Q: Questions>(
+    alloc: Global,
+    questions: &Q,
+    state: &mut State,
+    node: Node,
+    callee: Node,
+    of: TypeId,
+    arguments: &[TreeId],
+    class: ClassId,
+    written: Option<TypeId>,
+) -> Result<TreeId, Stop>
+    requires ready { Q.is_ready questions.now }
+    requires node { IsNodeHeld state.old node }
+    requires callee { IsNodeHeld state.old callee }
+    requires of { of.0 < length (state.old).types }
+    requires arguments { AreTreesHeld state.old arguments.now }
+    requires written { IsTypeNumberBelow (length (state.old).types) written }
+    ensures { IsAnswered tree IsTreeKnown state.old state.new result (tails.member_behind (Q.asks questions.now) (node_tree state.old node) (node_tree state.old callee) (type_of state.old of) (trees_held state.old arguments.now) class.0 (type_of_option (state.old).types written) (meaning state.old)) }
+{
+    let all = declared_member(alloc, questions, state, &callee, class)?;
+    member_among(
+        alloc,
+        questions,
+        state,
+        node,
+        callee,
+        of,
+        written,
+        arguments,
+        all.as_slice(),
+    )
+}
+
+// The members of a class.
+#[tactic(auto, using(cxx_expr::proofs::Kept::later_refl, cxx_expr::proofs::Kept::later_trans, cxx_expr::proofs::NodeKept::node_later, cxx_expr::proofs::NodeKept::node_kept, cxx_expr::proofs::Kept::trees_later, cxx_expr::proofs::Kept::trees_kept, cxx_expr::proofs::Kept::type_later, cxx_expr::proofs::Kept::type_kept))]
+fn member_within<Q: Questions>(
+    alloc: Global,
+    questions: &Q,
+    state: &mut State,
+    node: Node,
+    callee: Node,
+    of: TypeId,
+    arguments: &[TreeId],
+    class: ClassId,
+) -> Result<TreeId, Stop>
+    requires ready { Q.is_ready questions.now }
+    requires node { IsNodeHeld state.old node }
+    requires callee { IsNodeHeld state.old callee }
+    requires of { of.0 < length (state.old).types }
+    requires arguments { AreTreesHeld state.old arguments.now }
+    requires class { class.0 < length (state.old).graph.classes }
+    ensures { IsAnswered tree IsTreeKnown state.old state.new result (definition.member_within (Q.asks questions.now) (node_tree state.old node) (node_tree state.old callee) (type_of state.old of) (trees_held state.old arguments.now) class.0 (meaning state.old)) }
+{
+    let written = written(state, &callee, Some(class))?;
+    member_behind(
+        alloc, questions, state, node, callee, of, arguments, class, written,
+    )
+}
+
+// Those of the class of the object, or of the class that is written (3.4.5).
+#[tactic(auto, using(cxx_expr::proofs::Kept::later_refl, cxx_expr::proofs::Kept::later_trans, cxx_expr::proofs::NodeKept::node_later, cxx_expr::proofs::NodeKept::node_kept, cxx_expr::proofs::Kept::trees_later, cxx_expr::proofs::Kept::trees_kept, cxx_expr::proofs::Kept::type_later, cxx_expr::proofs::Kept::type_kept), unfolding(cxx_expr::specs::Calls::member_in))]
 fn member_in<Q: Questions>(
     alloc: Global,
     questions: &Q,
@@ -1033,19 +1120,11 @@ fn member_in<Q: Questions>(
     requires callee { IsNodeHeld state.old callee }
     requires of { of.0 < length (state.old).types }
     requires arguments { AreTreesHeld state.old arguments.now }
+    requires class { class.0 < length (state.old).graph.classes }
     ensures { IsAnswered tree IsTreeKnown state.old state.new result (definition.member_in (Q.asks questions.now) (node_tree state.old node) (node_tree state.old callee) (type_of state.old of) (trees_held state.old arguments.now) class.0 (meaning state.old)) }
 {
-    let all = declared_member(alloc, questions, state, &callee, class)?;
-    member_among(
-        alloc,
-        questions,
-        state,
-        node,
-        callee,
-        of,
-        arguments,
-        all.as_slice(),
-    )
+    let within = naming(alloc, questions, state, &callee, class)?;
+    member_within(alloc, questions, state, node, callee, of, arguments, within)
 }
 
 // The class of the object is that of the type of what is called.
@@ -1114,7 +1193,7 @@ fn member_call<Q: Questions>(
     member_typed(alloc, questions, state, node, callee, arguments)
 }
 
-// ---- a call of a member by its name alone (13.3.1.1.1 p3)
+// ---- a call of a member by its name without an object (13.3.1.1.1 p3)
 
 // The type of the object: that of `*this`, where it has the members, and else of one that is made up.
 fn implied_type(class: TypeId, object: Option<TypeId>) -> TypeId
@@ -1182,6 +1261,34 @@ fn implied_callee(alloc: Global, state: &mut State, name: Node, of: TypeId) -> R
     Ok(selected_callee(alloc, state, name, of, object)?)
 }
 
+// Given the class that is written before its name.
+#[tactic(auto, using(cxx_expr::proofs::Kept::later_trans, cxx_expr::proofs::NodeKept::node_later, cxx_expr::proofs::NodeKept::node_kept, cxx_expr::proofs::Kept::trees_later, cxx_expr::proofs::Kept::trees_kept, cxx_expr::proofs::Kept::type_later, cxx_expr::proofs::Kept::type_kept, crate::proofs::Chosen::object_later, crate::proofs::Chosen::object_kept, crate::proofs::Chosen::chosen_later, crate::proofs::Chosen::chosen_kept))]
+fn implied_behind<Q: Questions>(
+    alloc: Global,
+    questions: &Q,
+    state: &mut State,
+    node: Node,
+    arguments: &[TreeId],
+    of: TypeId,
+    class: Option<TypeId>,
+    chosen: Chosen,
+) -> Result<TreeId, Stop>
+    requires ready { Q.is_ready questions.now }
+    requires node { IsNodeHeld state.old node }
+    requires arguments { AreTreesHeld state.old arguments.now }
+    requires of { of.0 < length (state.old).types }
+    requires class { IsTypeNumberBelow (length (state.old).types) class }
+    requires chosen { IsChosen state.old chosen }
+    ensures { IsAnswered tree IsTreeKnown state.old state.new result (tails.implied_behind (Q.asks questions.now) (node_tree state.old node) (trees_held state.old arguments.now) (type_of state.old of) (type_of_option (state.old).types class) (chosen_of state.old chosen) (meaning state.old)) }
+{
+    let last = behind_called(state, &node, arguments);
+    let (name, call) = apart(alloc, node, last);
+    let callee = implied_callee(alloc, state, name, of)?;
+    member_chosen(
+        alloc, questions, state, call, callee, of, class, arguments, chosen,
+    )
+}
+
 // A function that belongs to an object is called for `*this`.
 #[tactic(auto, using(cxx_expr::proofs::Kept::later_trans, cxx_expr::proofs::NodeKept::node_later, cxx_expr::proofs::NodeKept::node_kept, cxx_expr::proofs::Kept::trees_later, cxx_expr::proofs::Kept::trees_kept, cxx_expr::proofs::Kept::type_later, cxx_expr::proofs::Kept::type_kept, crate::proofs::Chosen::chosen_later, crate::proofs::Chosen::chosen_kept))]
 fn implied_of<Q: Questions>(
@@ -1198,12 +1305,10 @@ fn implied_of<Q: Questions>(
     requires arguments { AreTreesHeld state.old arguments.now }
     requires of { of.0 < length (state.old).types }
     requires chosen { IsChosen state.old chosen }
-    ensures { IsAnswered tree IsTreeKnown state.old state.new result (definition.implied_member (Q.asks questions.now) (node_tree state.old node) (trees_held state.old arguments.now) (Some (type_of state.old of)) (chosen_of state.old chosen) (meaning state.old)) }
+    ensures { IsAnswered tree IsTreeKnown state.old state.new result (definition.implied_of (Q.asks questions.now) (node_tree state.old node) (trees_held state.old arguments.now) (type_of state.old of) (chosen_of state.old chosen) (meaning state.old)) }
 {
-    let last = behind_called(state, &node, arguments);
-    let (name, call) = apart(alloc, node, last);
-    let callee = implied_callee(alloc, state, name, of)?;
-    member_chosen(alloc, questions, state, call, callee, of, arguments, chosen)
+    let class = qualified(alloc, questions, state, &node)?;
+    implied_behind(alloc, questions, state, node, arguments, of, class, chosen)
 }
 
 // One that belongs to an object is not called without one.
@@ -1292,17 +1397,13 @@ fn implied_call<Q: Questions>(
 
 // ---- functions by their name
 
-// The class of functions; behind qualifiers these are static ones, which are called without an object (9.3, 9.4).
+// The class in whose scope functions stand (9.3, 9.4).
 #[tactic(auto, unfolding(cxx_this::specs::This::class_at))]
-fn class_called(state: &State, node: &Node, scope: ScopeId) -> Option<ClassId>
-    ensures is { class_or_none result ≡ definition.class_called (meaning state.now).graph (label_at (state.now).types node.now) scope.0 }
+fn class_called(state: &State, scope: ScopeId) -> Option<ClassId>
+    ensures is { class_or_none result ≡ class_at (meaning state.now).graph scope.0 }
     ensures there { IsClassNumberInRange (state.now).graph result }
 {
-    if is_plain(node) {
-        class_of_scope(state, scope)
-    } else {
-        None
-    }
+    class_of_scope(state, scope)
 }
 
 // Functions of a class are called for `*this`, where that has them.

@@ -1,6 +1,6 @@
 //! Members that are named without an object, in the body of a function that has one (9.3.1).
 
-ghost use Rattle.std.specs.Prelude.{List, ◌≡◌, ◌<◌, ◌∷◌, [], length, Some, IfOk};
+ghost use Rattle.std.specs.Prelude.{List, ◌≡◌, ◌<◌, ◌∷◌, [], codes, length, Some, IfOk};
 ghost use Rattle.cxx_meaning.specs.Conversions.Derived.{is_derived as is_derived_of};
 ghost use Rattle.cxx_model.specs.Facts.Declarations.{declares_at, type_of_option};
 ghost use Rattle.cxx_model.specs.Facts.Fitted.{IsTypeNumberBelow};
@@ -16,15 +16,15 @@ ghost use Rattle.cxx_tree.specs.Held.{Held, meaning, tree, trees, type_of};
 ghost use Rattle.cxx_expr.specs.Implied as definition;
 ghost use Rattle.cxx_expr.specs.Making.{GrowsOperand, GrowsTree, GrowsType, IsTreeKnown};
 ghost use Rattle.cxx_expr.specs.Nodes.{IsNodeHeld, node_tree};
-ghost use Rattle.cxx_expr.specs.Views.{AreFactsKnown, numbered};
-ghost use Rattle.cxx_called.specs.Members.{class_of_option};
+ghost use Rattle.cxx_expr.specs.Steps.{pointed_label as pointed_label_of};
+ghost use Rattle.cxx_expr.specs.Views.{AreFactsKnown, class_of_option, numbered};
 ghost use Rattle.cxx_called.specs.Tails as tails;
 
+use crate::classes::qualified;
 use crate::facts::{fact_at, values_among};
 use crate::members::{class_of_type, selected_among};
-use crate::names::{declared, is_nonstatic, is_plain, named};
+use crate::names::{declared, is_nonstatic, named};
 use cxx_expr::converting::push;
-use cxx_expr::faults::not_built_at;
 use cxx_expr::operands::value_operand;
 use cxx_expr::operators::listed_one;
 use cxx_expr::production::{MEMBER, PREFIX, THIS};
@@ -36,13 +36,13 @@ use cxx_model::{
 use cxx_standard::is_derived;
 use cxx_this::this_object;
 use cxx_tree::State;
-use std::alloc::Global;
+use std::alloc::{AllocError, Global};
 
 // ---- the object of a member
 
-// Whether a class is derived from another (10).
+/// Whether a class is derived from another (10).
 #[tactic(auto, unfolding(cxx_tree::specs::Held::meaning))]
-fn is_derived_from(
+pub(crate) fn is_derived_from(
     alloc: Global,
     state: &State,
     class: ClassId,
@@ -210,7 +210,7 @@ pub(crate) fn pointed_tree(
 ) -> Result<TreeId, Stop>
     requires of { of.0 < length (state.old).types }
     requires pointer { pointer.0 < length (trees state.old) }
-    ensures { GrowsTree state.old state.new result (tree_of (definition.pointed_label (label_at (state.old).types node.now) (type_of state.old of)) (tree state.old pointer ∷ [])) }
+    ensures { GrowsTree state.old state.new result (tree_of (pointed_label_of (label_at (state.old).types node.now) (type_of state.old of)) (tree state.old pointer ∷ [])) }
 {
     let object = Operand {
         of,
@@ -297,19 +297,20 @@ fn object_of_first(
     }
 }
 
-// A name as `.` selects it; the spelling tells whether it is called (5.2.2).
-fn as_member(alloc: Global, name: Node) -> Node
-    ensures is { (held : Held) → node_tree held result ≡ tree_of (definition.member_label (label_at held.types name) []) [] }
-    ensures held { (held : Held) → IsNodeHeld held name → IsNodeHeld held result }
+// A name as `.` selects it from an object that is not written.
+fn as_member(alloc: Global, name: Node) -> Result<Node, AllocError>
+    ensures is { (held : Held) → IfOk result (λ member. node_tree held member ≡ tree_of (definition.member_label (label_at held.types name) (codes "this")) []) }
+    ensures held { (held : Held) → IsNodeHeld held name → IfOk result (IsNodeHeld held) }
 {
     let mut name = name;
     name.production = MEMBER;
-    name.spelling = Listed::new(alloc);
+    name.spelling = Text::from_slice(alloc, b"this")?;
     name.children = Listed::new(alloc);
-    name
+    Ok(name)
 }
 
-#[tactic(auto, using(cxx_expr::proofs::Kept::later_trans, cxx_expr::proofs::NodeKept::node_later, cxx_expr::proofs::NodeKept::node_kept, cxx_expr::proofs::Kept::type_later, cxx_expr::proofs::Kept::type_kept, crate::proofs::Judged::facts_known))]
+// Given the class that is written before it.
+#[tactic(auto, using(cxx_expr::proofs::Kept::later_trans, cxx_expr::proofs::NodeKept::node_later, cxx_expr::proofs::NodeKept::node_kept, cxx_expr::proofs::Kept::type_later, cxx_expr::proofs::Kept::type_kept, crate::proofs::Chosen::object_later, crate::proofs::Chosen::object_kept, crate::proofs::Judged::facts_known))]
 fn member_selected<Q: Questions>(
     alloc: Global,
     questions: &Q,
@@ -317,12 +318,14 @@ fn member_selected<Q: Questions>(
     node: Node,
     all: &[FactId],
     of: TypeId,
+    class: Option<TypeId>,
 ) -> Result<TreeId, Stop>
     requires ready { Q.is_ready questions.now }
     requires node { IsNodeHeld state.old node }
     requires all { AreFactsKnown state.old all.now }
     requires of { of.0 < length (state.old).types }
-    ensures { IsAnswered tree IsTreeKnown state.old state.new result (tails.member_selected (Q.asks questions.now) (node_tree state.old node).label (numbered state.old all.now) (type_of state.old of) (meaning state.old)) }
+    requires class { IsTypeNumberBelow (length (state.old).types) class }
+    ensures { IsAnswered tree IsTreeKnown state.old state.new result (tails.member_selected (Q.asks questions.now) (node_tree state.old node).label (numbered state.old all.now) (type_of state.old of) (type_of_option (state.old).types class) (meaning state.old)) }
 {
     let tree = object_tree(alloc, state, &node, of)?;
     let parts = listed_one(alloc, tree)?;
@@ -331,12 +334,12 @@ fn member_selected<Q: Questions>(
         lvalue: true,
         constant: ConstantKind::No,
     };
-    let member = as_member(alloc, node);
-    selected_among(alloc, questions, state, member, object, parts, all)
+    let member = as_member(alloc, node)?;
+    selected_among(alloc, questions, state, member, object, parts, class, all)
 }
 
-// It is a member of `*this` (9.3.1); behind qualifiers it is not read yet.
-#[tactic(auto, using(cxx_expr::proofs::Kept::later_refl), unfolding(cxx_expr::specs::Implied::member_named))]
+// It is a member of `*this`, and of the class that is written before it (9.3.1).
+#[tactic(auto, using(cxx_expr::proofs::Kept::later_trans, cxx_expr::proofs::NodeKept::node_later, cxx_expr::proofs::NodeKept::node_kept, cxx_expr::proofs::Kept::type_later, cxx_expr::proofs::Kept::type_kept, crate::proofs::Judged::facts_known), unfolding(cxx_expr::specs::Implied::member_named))]
 fn member_named<Q: Questions>(
     alloc: Global,
     questions: &Q,
@@ -351,10 +354,8 @@ fn member_named<Q: Questions>(
     requires of { of.0 < length (state.old).types }
     ensures { IsAnswered tree IsTreeKnown state.old state.new result (definition.member_named (Q.asks questions.now) (node_tree state.old node).label (numbered state.old all.now) (type_of state.old of) (meaning state.old)) }
 {
-    if is_plain(&node) {
-        return member_selected(alloc, questions, state, node, all, of);
-    }
-    Err(Stop::Fault(not_built_at(alloc, node.place)?))
+    let class = qualified(alloc, questions, state, &node)?;
+    member_selected(alloc, questions, state, node, all, of, class)
 }
 
 fn named_by<Q: Questions>(

@@ -3,6 +3,7 @@
 
 mod bases;
 mod calls;
+mod classes;
 mod facts;
 mod implied;
 mod members;

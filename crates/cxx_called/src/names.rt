@@ -301,9 +301,9 @@ fn means_object_by(
     Ok(means_object(state, target, own))
 }
 
-// A function that belongs to an object of its class is not named without one (9.3).
+/// A function that belongs to an object of its class is not named without one (9.3).
 #[tactic(auto, using(cxx_expr::proofs::Kept::later_refl))]
-fn means_function(
+pub(crate) fn means_function(
     alloc: Global,
     state: &mut State,
     place: Place,

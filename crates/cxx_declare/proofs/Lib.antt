@@ -3,6 +3,7 @@ pub mod Asking
 pub mod Based
 pub mod Begun
 pub mod Bringing
+pub mod BringingMembers
 pub mod Brought
 pub mod Clashing
 pub mod Classed

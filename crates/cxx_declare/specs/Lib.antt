@@ -8,5 +8,7 @@ pub mod Classes
 pub mod Functions
 pub mod Given
 pub mod Made
+pub mod MemberUsings
 pub mod Opened
 pub mod Outside
+pub mod OutsideClasses

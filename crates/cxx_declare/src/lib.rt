@@ -12,9 +12,11 @@ mod enumerations;
 mod facts;
 mod functions;
 mod linking;
+mod member_usings;
 mod members;
 mod objects;
 mod outside;
+mod outside_classes;
 mod parts;
 mod spaces;
 mod usings;
@@ -28,11 +30,13 @@ pub use class_definitions::{MemberWords, begin_class, begin_unnamed, declare_mem
 pub use classes::class_here;
 pub use enumerations::{declare_enumeration, declare_enumerator, end_enumeration};
 pub use functions::declare_function;
+pub use member_usings::bring_member;
 pub use objects::{
     declare_linked_object, declare_object, declare_parameter, declare_synonym, define_declared,
     define_object,
 };
 pub use outside::{agree_here, enter_member, stand_in};
+pub use outside_classes::enter_class;
 pub use spaces::{
     close_space, declare_alias, declare_directive, open_space, open_unnamed, space_here,
 };

@@ -58,7 +58,7 @@ fn first_or_unit(scopes: &[ScopeId]) -> ScopeId
 }
 
 // The scope of a class; that of the unit where the class has not begun.
-fn scope_of_class(state: &State, class: ClassId) -> ScopeId
+pub(crate) fn scope_of_class(state: &State, class: ClassId) -> ScopeId
     ensures is { result.0 ≡ members.scope_of_class (meaning state.now).graph class }
     ensures there { result.0 < scopes (state.now).graph.facts }
 {

@@ -34,7 +34,13 @@ plain_asked view known old new result question ahead word plain same answered =
     (subst (λ (spelling : List ℕ). IsAsked view known old new result (question (path_of (token name.kind name.place spelling)))) spelled
     (asked view known old new result (question (path_of (token name.kind name.place word))) (answered name.kind name.place)))
 
--- a name that is handed over by its place and its spelling
+-- a name that is handed over by its place and its spelling, where what is answered is known
+pub named_known : {X A : Type 0} (view : Held → X → A) (known : Held → X → Type 0) (old new : Held) (result : Result X Stop) (question : Lexeme → Answer (A × CxxState)) (name : Lexeme) (word : List ℕ) → word ≡ name.spelling → ((kind : TokenKind) → IsAnswered view known old new result (question (token kind name.place word))) → IsAsked view known old new result (question name)
+named_known view known old new result question name word same answered =
+    subst (λ (spelling : List ℕ). IsAsked view known old new result (question (token name.kind name.place spelling))) same
+    (asked view known old new result (question (token name.kind name.place word)) (answered name.kind))
+
+-- the same where only that is asked
 pub named_asked : {X A : Type 0} (view : Held → X → A) (known : Held → X → Type 0) (old new : Held) (result : Result X Stop) (question : Lexeme → Answer (A × CxxState)) (name : Lexeme) (word : List ℕ) → word ≡ name.spelling → ((kind : TokenKind) → IsAnswered view known old new result (question (token kind name.place word))) → IsAsked view AnyKnown old new result (question name)
 named_asked view known old new (Ok x) question name word same answered =
     let found = answered name.kind in

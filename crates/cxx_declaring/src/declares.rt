@@ -12,7 +12,7 @@ use cxx_initialize::initialize;
 use cxx_knot::{read_declarator, read_initializer, read_specifiers};
 use cxx_language::{Declares, constant_value};
 use cxx_model::{
-    Cv, Entity, FactId, Node, OutOfMemory, Path, Place, ScopeId, Stop, TreeId, TypeId,
+    Access, Cv, Entity, FactId, Node, OutOfMemory, Path, Place, ScopeId, Stop, TreeId, TypeId,
 };
 use cxx_phrases::Initializer;
 use cxx_reading::{Naming, SpecifierPlace};
@@ -195,6 +195,11 @@ impl Declares for Declaring {
     #[tactic(auto, using(crate::proofs::Answering::asked))]
     fn bring_here(&self, state: &mut State, path: &Path) -> Result<(), Stop> {
         declare::bring_here(state, path)
+    }
+
+    #[tactic(auto, using(crate::proofs::Answering::asked))]
+    fn bring_member(&self, state: &mut State, label: Access, path: &Path) -> Result<(), Stop> {
+        declare::bring_member(state, label, path)
     }
 
     fn agree_here(

@@ -150,9 +150,14 @@ impl Defines for Declaring {
         &self,
         state: &mut State,
         is_union: bool,
-        name: Spelled<'_>,
+        name: &NameToken,
     ) -> Result<ClassId, Stop> {
-        declare::begin_class(state, is_union, name.place, name.spelling)
+        declare::begin_class(state, is_union, name.place, name.spelling.as_slice())
+    }
+
+    #[tactic(auto, using(crate::proofs::Answering::asked))]
+    fn enter_class(&self, state: &mut State, path: &Path) -> Result<(), Stop> {
+        declare::enter_class(state, path)
     }
 
     #[tactic(auto, using(crate::proofs::Answering::asked))]

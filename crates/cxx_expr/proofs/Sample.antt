@@ -174,11 +174,13 @@ is_unbroken (Err class) s = Err (not_built_at nowhere)
 abbrev pub asks : Questions
 asks = record {
   name = λ path s. Ok (declared_in s.graph s.here.scope (name_in path), s);
+  naming = λ class path s. Ok (class, s);
   member = λ class path s. Ok ([], s);
   bound = λ place number s. Ok (tt, s);
   call = λ question s. chosen_by question question.functions s;
   fallback = λ path target index s. Ok (fallback_tree, s);
   size = λ of s. is_unbroken (size_of s.graph of) s;
+  qualifier = λ path s. None;
   is_null = λ tree s. is_zero_in tree.label.operand;
 }
 

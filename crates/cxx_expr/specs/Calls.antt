@@ -1,20 +1,16 @@
 -- Calls (5.2.2).
 use Rattle.std.specs.Prelude.{ℕ, zero, suc, ◌+◌, ◌-◌, Bool, true, false, not, ◌&&◌, ◌||◌, nat_eq, nat_lt, if◌then◌else◌, List, [], ◌∷◌, ◌++◌, length, Option, Some, None, Ok, Err, codes}
-use Rattle.std.specs.List.{slice_get}
 use Rattle.cxx_model.specs.declared.fault.FaultText.TheVariants as says
 use Rattle.cxx_model.specs.declared.place.Place.{Place}
-use Rattle.cxx_model.specs.declared.types.ClassId.{ClassId}
 use Rattle.cxx_model.specs.Stops.{Stopped, fault, not_built_at}
-use Rattle.cxx_model.specs.Facts.Declarations.{CxxFact, CxxGraph}
-use Rattle.cxx_model.specs.Types.Trees.{CxxType, class_type, function_of, reference_to, with_cv}
+use Rattle.cxx_model.specs.Facts.Declarations.{CxxGraph}
+use Rattle.cxx_model.specs.Types.Trees.{CxxType, function_of}
 use Rattle.cxx_meaning.specs.Conversions.BuiltIn.{operand_kind}
-use Rattle.cxx_meaning.specs.Conversions.Kinds.{CxxKind, cv_of, pointing}
+use Rattle.cxx_meaning.specs.Conversions.Kinds.{CxxKind, pointing}
 use Rattle.cxx_meaning.specs.Conversions.Standard.{CxxOperand}
-use Rattle.cxx_meaning.specs.Lookups.Member.{class_of_scope}
 use Rattle.cxx_meaning.specs.Lookups.Wanted.{is_function}
 use Rattle.cxx_reading.specs.Choosing.{each_type}
 use Rattle.cxx_reading.specs.Initializers.{operand_of}
-use Rattle.cxx_reading.specs.Linked.{scope_id}
 use Rattle.cxx_reading.specs.Plain.{target_or}
 use Rattle.cxx_reading.specs.Reads.{Asks}
 use Rattle.cxx_reading.specs.Seen.{Numbered}
@@ -23,13 +19,14 @@ use Rattle.cxx_reading.specs.Trees.{CxxPath, CxxPathPart, CxxTree, Label, childr
 use Rattle.cxx_this.specs.This.{class_at}
 use Rattle.cxx_expr.specs.declared.production.TheConstants as production
 use Rattle.cxx_expr.specs.Asking.{◌>>=◌, fault_at, give}
-use Rattle.cxx_expr.specs.Converting.{convert, convert_each}
-use Rattle.cxx_expr.specs.Implied.{member_label, named_here, object_for, object_tree, pointed_label}
+use Rattle.cxx_expr.specs.Converting.{convert_each}
+use Rattle.cxx_expr.specs.Implied.{member_label, named_here, object_for, object_tree}
 use Rattle.cxx_expr.specs.Members.{class_of_object}
-use Rattle.cxx_expr.specs.Names.{is_function_at, is_none_left, is_static_member, means_object, path_in, static_class, values_among, word_in}
+use Rattle.cxx_expr.specs.Names.{is_function_at, is_none_left, means_object, path_in, static_class, values_among, word_in}
 use Rattle.cxx_expr.specs.Operands.{is_none, is_of_class, judged_each, object_operand, only, result_operand}
 use Rattle.cxx_expr.specs.Operators.{misshapen}
 use Rattle.cxx_expr.specs.Questions.{CxxChosen, CxxQuestion, Questions}
+use Rattle.cxx_expr.specs.Steps.{class_before, declaring, is_static_at, kept_by, member_over, object_called, or_own, shared, step_to, written}
 
 -- ---- default arguments
 
@@ -55,13 +52,14 @@ chosen_tree tree chosen class arguments = tree_of (record tree.label { of = clas
 abbrev pub chosen_as : CxxTree → CxxChosen → List CxxTree → Asks CxxState CxxTree
 chosen_as tree chosen arguments state = Ok (chosen_tree tree chosen (static_class state.graph chosen.target) arguments, state)
 
--- what the call is once it is known which function it means
+-- What the call is once it is known which function it means. Before the arguments are converted it is asked for the default
+-- arguments behind them.
 unfoldable pub chosen_call : Questions → CxxTree → List CxxTree → CxxChosen → Asks CxxState CxxTree
 chosen_call q tree arguments chosen = do
   noted ← q.bound tree.label.place chosen.target
+  behind ← fallbacks q (path_in tree.label) chosen.target (length arguments) [] (length chosen.parameters - length arguments)
   given ← convert_each q tree.label.place chosen.parameters [] arguments
-  all ← fallbacks q (path_in tree.label) chosen.target (length arguments) given (length chosen.parameters - length arguments)
-  chosen_as tree chosen all
+  chosen_as tree chosen (given ++ behind)
 
 -- 3.4.2: whether the called name stands in no brackets and has no qualifiers
 abbrev pub is_bare : Label → Bool
@@ -152,87 +150,61 @@ member_call_tree tree place chosen parts = tree_of (record tree.label { place = 
 abbrev pub name_alone : CxxPathPart → CxxPath
 name_alone part = record { global = false; parts = record part { arguments = None } ∷ [] }
 
--- behind so many arguments stand the default arguments of the other parameters
-unfoldable pub member_filled : Questions → CxxTree → Place → CxxPath → ℕ → CxxChosen → List CxxTree → Asks CxxState CxxTree
-member_filled q tree place path count chosen parts = do
-  all ← fallbacks q path chosen.target count parts (length chosen.parameters - count)
-  give (member_call_tree tree place chosen all)
-
-unfoldable pub member_converted : Questions → CxxTree → Place → CxxPath → CxxTree → List CxxTree → CxxChosen → Asks CxxState CxxTree
-member_converted q tree place path callee arguments chosen = do
+-- over what is called, the arguments, and the default arguments behind them
+unfoldable pub member_converted : Questions → CxxTree → Place → CxxTree → List CxxTree → CxxChosen → List CxxTree → Asks CxxState CxxTree
+member_converted q tree place callee arguments chosen behind = do
   parts ← convert_each q place chosen.parameters (callee ∷ []) arguments
-  member_filled q tree place path (length arguments) chosen parts
+  give (member_call_tree tree place chosen (parts ++ behind))
 
-abbrev pub member_meant : Questions → CxxTree → CxxTree → List CxxTree → CxxChosen → Asks CxxState CxxTree
-member_meant q tree callee arguments chosen state = member_converted q tree (word_in callee.label).place (name_alone (word_in callee.label)) (callee_as callee chosen state) arguments chosen state
+abbrev pub member_meant : Questions → CxxTree → CxxTree → List CxxTree → CxxChosen → List CxxTree → Asks CxxState CxxTree
+member_meant q tree callee arguments chosen behind state = member_converted q tree (word_in callee.label).place (callee_as callee chosen state) arguments chosen behind state
 
--- the class that declares a function, where it is not that of the object
-abbrev pub other_class : ℕ → Option ClassId → Option CxxType
-other_class n None = None
-other_class n (Some class) = if nat_eq n class.0 then None else Some (class_type class.0)
+-- what is called, with the class that stands before its name
+abbrev pub qualified : CxxTree → Option CxxType → CxxTree
+qualified callee class = record { label = record callee.label { of = class }; children = callee.children }
 
-abbrev pub other_than : Option ℕ → Option ClassId → Option CxxType
-other_than None class = None
-other_than (Some n) class = other_class n class
+-- 9.4: a static function has no object, and is one of the object's class
+abbrev pub static_over : CxxTree → CxxType → Option CxxType → Option CxxType → Asks CxxState CxxTree
+static_over callee of class declared state = kept_by (qualified callee (class_before false of class declared)) state (shared state.graph (word_in callee.label).place of class declared)
 
--- 9.4: a static function has no object
-abbrev pub base_of_fact : CxxGraph → CxxType → Option CxxFact → Option CxxType
-base_of_fact graph of None = None
-base_of_fact graph of (Some fact) = if is_static_member fact.what then None else other_than (class_of_object (object_operand of)) (class_of_scope graph.facts (scope_id fact.scope))
+unfoldable pub based_on : Questions → CxxTree → CxxType → Option CxxType → Option CxxType → CxxTree → Asks CxxState CxxTree
+based_on q callee of class declared object = do
+  first ← step_to q (word_in callee.label).place of of class object
+  second ← step_to q (word_in callee.label).place of (or_own class of) declared first
+  give (member_over callee second (class_before (operand_of object).lvalue of class declared))
 
--- 10.2: the base of an object's class that declares a function
-unfoldable pub base_declaring : CxxGraph → CxxType → ℕ → Option CxxType
-base_declaring graph of target = base_of_fact graph of (slice_get graph.facts target)
+abbrev pub based_by : Questions → CxxTree → CxxType → Option CxxType → Option CxxType → Option CxxTree → Asks CxxState CxxTree
+based_by q callee of class declared None = misshapen callee
+based_by q callee of class declared (Some one) = based_on q callee of class declared (object_called callee of one)
 
--- what `->` selects from, as an object
-abbrev pub object_called : CxxTree → CxxType → CxxTree → CxxTree
-object_called callee of one = if nat_eq callee.label.production production.ARROW then tree_of (pointed_label callee.label of) (one ∷ []) else one
-
-abbrev pub callee_over : CxxTree → CxxTree → CxxTree
-callee_over callee object = tree_of (record callee.label { production = production.MEMBER }) (object ∷ [])
-
--- the base of an object, with the words of that
-abbrev pub base_reference : CxxType → CxxType → CxxType
-base_reference of base = reference_to (with_cv (cv_of of) base)
-
-unfoldable pub base_converted : Questions → CxxTree → CxxType → CxxType → CxxTree → Asks CxxState CxxTree
-base_converted q callee of base object = do
-  converted ← convert q (word_in callee.label).place (base_reference of base) object
-  give (callee_over callee converted)
-
--- that of a value is not written yet
-abbrev pub base_of_object : Questions → CxxTree → CxxType → CxxType → CxxTree → Asks CxxState CxxTree
-base_of_object q callee of base object state =
-    if (operand_of object).lvalue then base_converted q callee of base object state else Err (not_built_at (word_in callee.label).place)
-
-abbrev pub based_over : Questions → CxxTree → CxxType → CxxType → Option CxxTree → Asks CxxState CxxTree
-based_over q callee of base None = misshapen callee
-based_over q callee of base (Some one) = base_of_object q callee of base (object_called callee of one)
-
-abbrev pub based_by : Questions → CxxTree → CxxType → Option CxxType → Asks CxxState CxxTree
-based_by q callee of None = give callee
-based_by q callee of (Some base) = based_over q callee of base (only (children_of callee))
-
--- 13.3.1.1.1: a function of a base is called for that base of the object
-unfoldable pub based : Questions → CxxTree → CxxType → ℕ → Asks CxxState CxxTree
-based q callee of target state = based_by q callee of (base_declaring state.graph of target) state
+-- 10.2, 13.3.1.1.1: A function is called for its object as one of the class that is written before it, and as one of the class
+-- that declares it.
+unfoldable pub based : Questions → CxxTree → CxxType → Option CxxType → ℕ → Asks CxxState CxxTree
+based q callee of class target state =
+    if is_static_at state.graph target then static_over callee of class (declaring state.graph target) state else
+    based_by q callee of class (declaring state.graph target) (only (children_of callee)) state
 
 -- what the call is once it is known which function it means, given the type of the object
-unfoldable pub member_chosen : Questions → CxxTree → CxxTree → CxxType → List CxxTree → CxxChosen → Asks CxxState CxxTree
-member_chosen q tree callee of arguments chosen = do
+unfoldable pub member_chosen : Questions → CxxTree → CxxTree → CxxType → Option CxxType → List CxxTree → CxxChosen → Asks CxxState CxxTree
+member_chosen q tree callee of class arguments chosen = do
   noted ← q.bound (word_in callee.label).place chosen.target
-  over ← based q callee of chosen.target
-  member_meant q tree over arguments chosen
+  behind ← fallbacks q (name_alone (word_in callee.label)) chosen.target (length arguments) [] (length chosen.parameters - length arguments)
+  over ← based q callee of class chosen.target
+  member_meant q tree over arguments chosen behind
 
-unfoldable pub member_function_call : Questions → CxxTree → CxxTree → CxxType → List CxxTree → List Numbered → Asks CxxState CxxTree
-member_function_call q tree callee of arguments functions state = (q.call (member_question q callee.label of functions arguments state) >>= member_chosen q tree callee of arguments) state
+unfoldable pub member_function_call : Questions → CxxTree → CxxTree → CxxType → Option CxxType → List CxxTree → List Numbered → Asks CxxState CxxTree
+member_function_call q tree callee of class arguments functions state = (q.call (member_question q callee.label of functions arguments state) >>= member_chosen q tree callee of class arguments) state
 
 -- the members with the name that is called
-unfoldable pub member_among : Questions → CxxTree → CxxTree → CxxType → List CxxTree → List Numbered → Asks CxxState CxxTree
-member_among q tree callee of arguments all state = member_function_call q tree callee of arguments (values_among state.graph all) state
+unfoldable pub member_among : Questions → CxxTree → CxxTree → CxxType → Option CxxType → List CxxTree → List Numbered → Asks CxxState CxxTree
+member_among q tree callee of class arguments all state = member_function_call q tree callee of class arguments (values_among state.graph all) state
 
+abbrev pub member_within : Questions → CxxTree → CxxTree → CxxType → List CxxTree → ℕ → Asks CxxState CxxTree
+member_within q tree callee of arguments class = q.member class (path_in callee.label) >>= member_among q tree callee of (written (path_in callee.label) (Some class)) arguments
+
+-- 3.4.5: of the object's class, or of the class that is written
 unfoldable pub member_in : Questions → CxxTree → CxxTree → CxxType → List CxxTree → ℕ → Asks CxxState CxxTree
-member_in q tree callee of arguments class = q.member class (path_in callee.label) >>= member_among q tree callee of arguments
+member_in q tree callee of arguments class = q.naming class (path_in callee.label) >>= member_within q tree callee of arguments
 
 abbrev pub member_of : Questions → CxxTree → CxxTree → CxxType → List CxxTree → Option ℕ → Asks CxxState CxxTree
 member_of q tree callee of arguments None = misshapen tree
@@ -260,7 +232,7 @@ called_label label arguments = record label { production = production.NAME; spel
 abbrev pub without_name : CxxTree → CxxTree
 without_name tree = record { label = record tree.label { spelling = []; path = None }; children = tree.children }
 
--- ---- a call of a member by its name alone (13.3.1.1.1 p3)
+-- ---- a call of a member by its name without an object (13.3.1.1.1 p3)
 
 -- the type of the object: that of `*this`, where it has the members, and else of one that is made up
 abbrev pub implied_type : CxxType → Option CxxType → CxxType
@@ -275,10 +247,13 @@ implied_question q label functions of arguments state = record { place = label.p
 abbrev pub implied_callee : Label → CxxType → CxxTree
 implied_callee label of = tree_of (record (member_label label (codes "(")) { of = Some of }) (object_tree label of ∷ [])
 
+abbrev pub implied_of : Questions → CxxTree → List CxxTree → CxxType → CxxChosen → Asks CxxState CxxTree
+implied_of q tree arguments of chosen state = member_chosen q (without_name tree) (implied_callee (called_label tree.label arguments) of) of (written (path_in tree.label) (q.qualifier (path_in tree.label) state)) arguments chosen state
+
 -- a function that belongs to an object is not called without one
 abbrev pub implied_member : Questions → CxxTree → List CxxTree → Option CxxType → CxxChosen → Asks CxxState CxxTree
 implied_member q tree arguments None chosen = fault_at tree.label.place says.OperandsDoNotFit
-implied_member q tree arguments (Some of) chosen = member_chosen q (without_name tree) (implied_callee (called_label tree.label arguments) of) of arguments chosen
+implied_member q tree arguments (Some of) chosen = implied_of q tree arguments of chosen
 
 -- 9.4: for a static function the object says nothing
 unfoldable pub implied_chosen : Questions → CxxTree → List CxxTree → Option CxxType → CxxChosen → Asks CxxState CxxTree
@@ -307,14 +282,10 @@ abbrev pub functions_called : Questions → CxxTree → List Numbered → List C
 functions_called q tree functions arguments scope None state = function_call q tree functions arguments state
 functions_called q tree functions arguments scope (Some class) state = implied_call q tree functions arguments class (object_for state scope) state
 
--- 9.3, 9.4: functions of a class; behind qualifiers these are static ones, which are called without an object
-abbrev pub class_called : CxxGraph → Label → ℕ → Option CxxType
-class_called graph label scope = if is_plain_path (path_in label) then class_at graph scope else None
-
 abbrev pub called_first : Questions → CxxTree → List Numbered → List CxxTree → List Numbered → Asks CxxState CxxTree
 called_first q tree all arguments [] state = if is_asked_for tree.label all then function_call q tree [] arguments state else value_call q tree all arguments state
 called_first q tree all arguments (one ∷ others) state =
-    if is_function state.graph one.fact.what then functions_called q tree (one ∷ others) arguments one.fact.scope (class_called state.graph tree.label one.fact.scope) state else
+    if is_function state.graph one.fact.what then functions_called q tree (one ∷ others) arguments one.fact.scope (class_at state.graph one.fact.scope) state else
     value_call q tree all arguments state
 
 -- A name that has these declarations is called: a function among them hides the types, and is looked for by its arguments.

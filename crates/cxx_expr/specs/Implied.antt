@@ -1,10 +1,9 @@
 -- `this` (9.3.2), and members that are named without an object in the body of a function that has one (9.3.1).
-use Rattle.std.specs.Prelude.{ℕ, Bool, true, false, ◌||◌, nat_eq, if◌then◌else◌, List, [], ◌∷◌, Option, Some, None, Err, codes}
+use Rattle.std.specs.Prelude.{ℕ, Bool, true, false, ◌||◌, nat_eq, if◌then◌else◌, List, [], ◌∷◌, Option, Some, None, codes}
 use Rattle.cxx_model.specs.declared.fault.FaultText.TheVariants as says
 use Rattle.cxx_model.specs.declared.types.ClassId.{ClassId}
 use Rattle.cxx_model.specs.Facts.Declarations as facts
 use Rattle.cxx_model.specs.Facts.Declarations.{CxxGraph, Declares}
-use Rattle.cxx_model.specs.Stops.{not_built_at}
 use Rattle.cxx_model.specs.Types.Trees.{CxxType, pointer_to}
 use Rattle.cxx_meaning.specs.Conversions.Derived.{is_derived}
 use Rattle.cxx_meaning.specs.Lookups.Member.{class_of_scope}
@@ -13,7 +12,7 @@ use Rattle.cxx_reading.specs.Linked.{scope_id}
 use Rattle.cxx_reading.specs.Reads.{Asks}
 use Rattle.cxx_reading.specs.Seen.{Numbered}
 use Rattle.cxx_reading.specs.State.{CxxState}
-use Rattle.cxx_reading.specs.Trees.{CxxTree, Label, is_plain_path, tree_of}
+use Rattle.cxx_reading.specs.Trees.{CxxTree, Label, tree_of}
 use Rattle.cxx_this.specs.This.{this_object}
 use Rattle.cxx_expr.specs.declared.production.TheConstants as production
 use Rattle.cxx_expr.specs.Asking.{◌>>=◌, fault_at, give}
@@ -21,6 +20,7 @@ use Rattle.cxx_expr.specs.Members.{class_of_object, selected_among}
 use Rattle.cxx_expr.specs.Names.{is_nonstatic, named, path_in, values_among}
 use Rattle.cxx_expr.specs.Operands.{given_over, object_operand}
 use Rattle.cxx_expr.specs.Questions.{Questions}
+use Rattle.cxx_expr.specs.Steps.{pointed_label, written}
 
 -- ---- `this`
 
@@ -64,15 +64,11 @@ object_for state scope = object_with state.graph scope (this_object state)
 abbrev pub this_tree : Label → CxxType → CxxTree
 this_tree label of = tree_of (record label { production = production.THIS; spelling = codes "this"; path = None; operand = Some (value_operand (pointer_to of)); of = None; target = None; call = None }) []
 
--- what a pointer points to
-abbrev pub pointed_label : Label → CxxType → Label
-pointed_label label of = record label { production = production.PREFIX; spelling = codes "*"; path = None; operand = Some (object_operand of); of = None; target = None; call = None }
-
 -- `*this`
 abbrev pub object_tree : Label → CxxType → CxxTree
 object_tree label of = tree_of (pointed_label label of) (this_tree label of ∷ [])
 
--- a name as `.` selects it; the spelling tells whether it is called (5.2.2)
+-- a name as `.` selects it; the spelling tells whether it is called (5.2.2), or that its object is not written
 abbrev pub member_label : Label → List ℕ → Label
 member_label label spelling = record label { production = production.MEMBER; spelling = spelling }
 
@@ -88,11 +84,9 @@ abbrev pub object_of_first : CxxState → List Numbered → Option CxxType
 object_of_first state [] = None
 object_of_first state (one ∷ others) = if is_data_member one.fact.what then object_for state one.fact.scope else None
 
--- 9.3.1: it is a member of `*this`; behind qualifiers it is not read yet
+-- 9.3.1: it is a member of `*this`, and of the class that is written before it
 unfoldable pub member_named : Questions → Label → List Numbered → CxxType → Asks CxxState CxxTree
-member_named q label all of state =
-    if is_plain_path (path_in label) then selected_among q (tree_of (member_label label []) []) (object_operand of) (object_tree label of ∷ []) all state else
-    Err (not_built_at label.place)
+member_named q label all of state = selected_among q (tree_of (member_label label (codes "this")) []) (object_operand of) (object_tree label of ∷ []) (written (path_in label) (q.qualifier (path_in label) state)) all state
 
 abbrev pub named_by : Questions → Label → List Numbered → Option CxxType → Asks CxxState CxxTree
 named_by q label all None = named q label all

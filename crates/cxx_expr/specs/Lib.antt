@@ -9,6 +9,7 @@ pub mod Operators
 pub mod Casts
 pub mod SizesOf
 pub mod Calls
+pub mod Steps
 pub mod Members
 pub mod Implied
 pub mod Elaborating

@@ -1,7 +1,8 @@
 -- The operators of operands that are of no class and no enumeration (5.2.1, 5.2.6, 5.3.1, 5.3.2, 5.6 to 5.18), and `&` and
 -- `,` of those that are.
-use Rattle.std.specs.Prelude.{ℕ, zero, Bool, ◌||◌, nat_eq, if◌then◌else◌, List, [], ◌∷◌, Option, Some, None, Ok, Err}
+use Rattle.std.specs.Prelude.{ℕ, zero, Bool, false, not, ◌&&◌, ◌||◌, nat_eq, bytes_eq, codes, if◌then◌else◌, List, [], ◌∷◌, Option, Some, None, Ok, Err}
 use Rattle.cxx_model.specs.declared.fault.FaultText.TheVariants as says
+use Rattle.cxx_model.specs.declared.fault.LeftOut.TheVariants as form
 use Rattle.cxx_model.specs.declared.punct.TheConstants as punct
 use Rattle.cxx_model.specs.declared.base.Base.TheVariants as base
 use Rattle.cxx_model.specs.declared.place.Place.{Place}
@@ -15,7 +16,8 @@ use Rattle.cxx_meaning.specs.Conversions.Standard.{CxxOperand}
 use Rattle.cxx_reading.specs.Initializers.{operand_of, value_operand}
 use Rattle.cxx_reading.specs.Reads.{Asks}
 use Rattle.cxx_reading.specs.State.{CxxState}
-use Rattle.cxx_reading.specs.Trees.{CxxTree, children_of}
+use Rattle.cxx_reading.specs.Trees.{CxxPath, CxxTree, Label, children_of, is_plain_path}
+use Rattle.cxx_expr.specs.declared.production.TheConstants as production
 use Rattle.cxx_expr.specs.Asking.{◌>>=◌, fault_at, give}
 use Rattle.cxx_expr.specs.Converting.{convert, convert_each}
 use Rattle.cxx_expr.specs.Operands.{all_three, asks_operator, both, built_operand, given_over, is_of_class, judged_beside, only}
@@ -74,9 +76,28 @@ prefix_asked tree one state =
     if nat_eq (operator_in tree) punct.AMPERSAND then own_meaning tree punct.AMPERSAND (one ∷ []) (operand_of one ∷ []) state else
     Err (not_built_at tree.label.place)
 
+-- 9.3.1: the spelling tells whether the object of a member is `*this`, which is not written
+abbrev pub is_implied : Label → Bool
+is_implied label = bytes_eq label.spelling (codes "this")
+
+abbrev pub has_qualifiers : Option CxxPath → Bool
+has_qualifiers None = false
+has_qualifiers (Some path) = not (is_plain_path path)
+
+-- whether a name with qualifiers, which stands alone, means a member of `*this`
+abbrev pub names_member : CxxTree → Bool
+names_member tree = nat_eq tree.label.production production.MEMBER && (has_qualifiers tree.label.path && is_implied tree.label)
+
+-- 5.3.1 p2, 8.3.3: behind `&` it is a pointer to a member
+abbrev pub points_to_member : CxxTree → CxxTree → Bool
+points_to_member tree one = nat_eq (operator_in tree) punct.AMPERSAND && names_member one
+
+abbrev pub prefix_by : Questions → CxxTree → CxxTree → Asks CxxState CxxTree
+prefix_by q tree one state = if asks_operator one then prefix_asked tree one state else prefix_built q tree one state
+
 abbrev pub prefix_of : Questions → CxxTree → Option CxxTree → Asks CxxState CxxTree
 prefix_of q tree None state = misshapen tree state
-prefix_of q tree (Some one) state = if asks_operator one then prefix_asked tree one state else prefix_built q tree one state
+prefix_of q tree (Some one) state = if points_to_member tree one then Err (fault tree.label.start (says.LeftOut form.PointerToMember)) else prefix_by q tree one state
 
 -- 5.3.1, 5.3.2
 unfoldable pub prefix : Questions → CxxTree → Asks CxxState CxxTree

@@ -30,6 +30,9 @@ pub record CxxChosen : Type 0 where
 pub record Questions : Type 0 where
   -- 3.4: all declarations that a name means; none where it is not declared
   pub name : CxxPath → Asks CxxState (List Numbered)
+  -- 3.4.5: the class in which a name is looked up behind an object of a class: that which its qualifiers mean, and without
+  -- them that of the object
+  pub naming : ℕ → CxxPath → Asks CxxState ℕ
   -- 10.2: all declarations that a name means as a member of a class; none where the class has no such member
   pub member : ℕ → CxxPath → Asks CxxState (List Numbered)
   -- 3.4: a name, by its place, means the entity with this first declaration
@@ -41,5 +44,7 @@ pub record Questions : Type 0 where
   pub fallback : CxxPath → ℕ → ℕ → Asks CxxState CxxTree
   -- 5.3.3
   pub size : CxxType → Asks CxxState (Result ℕ SizeReason)
+  -- 3.4.3.1: the class that the qualifiers of a name mean where it stands, if they mean one
+  pub qualifier : CxxPath → CxxState → Option ℕ
   -- 5.19: whether an expression is an integral constant with the value zero
   pub is_null : CxxTree → CxxState → Bool

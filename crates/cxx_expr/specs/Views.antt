@@ -3,6 +3,7 @@ use Rattle.std.specs.Prelude.{ℕ, ◌<◌, Bool, List, [], ◌∷◌, length, O
 use Rattle.std.specs.List.{slice_get}
 use Rattle.cxx_model.specs.declared.place.Place.{Place}
 use Rattle.cxx_model.specs.declared.sequence.Operand.{Operand}
+use Rattle.cxx_model.specs.declared.types.ClassId.{ClassId}
 use Rattle.cxx_model.specs.declared.types.FactId.{FactId}
 use Rattle.cxx_model.specs.declared.types.TypeId.{TypeId}
 use Rattle.cxx_model.specs.Facts.Declarations.{CxxFact, CxxGraph}
@@ -37,6 +38,18 @@ AreFactsBelow count (n ∷ numbers) = (n.0 < count) × AreFactsBelow count numbe
 
 abbrev pub AreFactsKnown : Held → List FactId → Type 0
 AreFactsKnown held numbers = AreFactsBelow (length held.graph.facts) numbers
+
+-- ---- classes
+
+abbrev pub class_of_number : Held → ClassId → ℕ
+class_of_number held class = class.0
+
+abbrev pub class_of_option : Option ClassId → Option ℕ
+class_of_option None = None
+class_of_option (Some class) = Some class.0
+
+abbrev pub IsClassKnown : Held → ClassId → Type 0
+IsClassKnown held class = class.0 < length held.graph.classes
 
 -- ---- lists of types and operands
 

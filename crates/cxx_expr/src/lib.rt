@@ -17,6 +17,7 @@ mod questions;
 mod sizes;
 mod statics;
 
+pub use bases::one_base;
 pub use casts::{cast, functional};
 pub use converting::convert;
 pub use copies::{node_of, node_over};

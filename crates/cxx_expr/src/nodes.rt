@@ -30,7 +30,8 @@ pub fn given_over(
     push(state, node)
 }
 
-fn only(state: &State, numbers: &[TreeId]) -> Option<TreeId>
+/// The one of some trees that is alone.
+pub fn only(state: &State, numbers: &[TreeId]) -> Option<TreeId>
     requires { AreTreesHeld state.now numbers.now }
     ensures is { one_tree state.now result ≡ definition.only (trees_held state.now numbers.now) }
     ensures known { IsOneKnown state.now result }

@@ -1,7 +1,7 @@
 //! The operators of operands that are of no class and no enumeration (5.2.1, 5.2.6, 5.3.1, 5.3.2, 5.6 to 5.18), and `&` and
 //! `,` of those that are.
 
-ghost use Rattle.std.specs.Prelude.{List, ◌≡◌, ◌<◌, ◌∷◌, [], length, position, bytes_eq, IfOk, IfSome};
+ghost use Rattle.std.specs.Prelude.{List, ◌≡◌, ◌<◌, ◌∷◌, [], codes, length, position, bytes_eq, IfOk, IfSome};
 ghost use Rattle.cxx_builtin.specs.Built.{IsBuiltBelow, built_at};
 ghost use Rattle.cxx_meaning.specs.Conversions.BuiltIn as built_in;
 ghost use Rattle.cxx_meaning.specs.Conversions.BuiltIn.{built_in_result};
@@ -13,6 +13,7 @@ ghost use Rattle.cxx_reading.specs.Initializers.{operand_of as operand_of_tree, 
 ghost use Rattle.cxx_model.specs.declared.fault.FaultText.TheVariants as says;
 ghost use Rattle.cxx_model.specs.declared.punct.TheConstants as punctuation;
 ghost use Rattle.cxx_standard.specs.Views.{kind_at};
+ghost use Rattle.cxx_tree.specs.Arena.{path_of_option};
 ghost use Rattle.cxx_tree.specs.Answered.{IsAnswered};
 ghost use Rattle.cxx_tree.specs.Held.{meaning, tree, trees};
 ghost use Rattle.cxx_expr.specs.Built.{GrowsMeaning};
@@ -26,14 +27,15 @@ use crate::converting::convert_each;
 use crate::faults::{fault, not_built_at};
 use crate::nodes::{both_children, given_over, only_child};
 use crate::operands::{judged_beside, operand_of, plain_type};
+use crate::production::MEMBER;
 use crate::questions::Questions;
 use cxx_builtin::{BuiltIn, ResultFault};
 use cxx_model::{
-    Base, ConstantKind, Fault, FaultText, Listed, Node, Operand, OperandList, Place, Stop, TreeId,
-    TreeIdList, punct,
+    Base, ConstantKind, Fault, FaultText, LeftOut, Listed, Node, Operand, OperandList, Path, Place,
+    Stop, TreeId, TreeIdList, punct,
 };
 use cxx_standard::{TypeKind, kind_of};
-use cxx_tree::State;
+use cxx_tree::{State, is_plain_path};
 use std::alloc::{AllocError, Global};
 
 /// No meaning of clause 5.
@@ -321,7 +323,59 @@ fn prefix_asked<Q: Questions>(
     Err(Stop::Fault(not_built_at(alloc, node.place)?))
 }
 
-/// An operator in front of its operand (5.3.1, 5.3.2).
+fn has_qualifiers(path: &Option<Path>) -> bool
+    ensures { result ≡ definition.has_qualifiers (path_of_option path.now) }
+{
+    match path {
+        None => false,
+        Some(path) => !is_plain_path(path),
+    }
+}
+
+// Whether the object of a member is `*this`, which is not written (9.3.1).
+fn is_implied(spelling: &[u8]) -> bool
+    ensures { result ≡ bytes_eq spelling.now (codes "this") }
+{
+    spelling == b"this".as_slice()
+}
+
+// Whether a name with qualifiers, which stands alone, means a member of `*this`.
+fn names_member(state: &State, number: TreeId) -> bool
+    requires { number.0 < length (trees state.now) }
+    ensures { result ≡ definition.names_member (tree state.now number) }
+{
+    let node = state.node(number);
+    node.production == MEMBER && has_qualifiers(&node.path) && is_implied(node.spelling.as_slice())
+}
+
+// Behind `&` it is a pointer to a member (5.3.1 p2, 8.3.3).
+fn points_to_member(state: &State, node: &Node, one: TreeId) -> bool
+    requires node { IsNodeHeld state.now node.now }
+    requires one { one.0 < length (trees state.now) }
+    ensures { result ≡ definition.points_to_member (node_tree state.now node.now) (tree state.now one) }
+{
+    operator_in(state, node) == punct::AMPERSAND && names_member(state, one)
+}
+
+fn prefix_by<Q: Questions>(
+    alloc: Global,
+    questions: &Q,
+    state: &mut State,
+    node: Node,
+    one: TreeId,
+) -> Result<TreeId, Stop>
+    requires ready { Q.is_ready questions.now }
+    requires node { IsNodeHeld state.old node }
+    requires one { one.0 < length (trees state.old) }
+    ensures { IsAnswered tree IsTreeKnown state.old state.new result (definition.prefix_by (Q.asks questions.now) (node_tree state.old node) (tree state.old one) (meaning state.old)) }
+{
+    if asks_operator(state, one) {
+        return prefix_asked(alloc, questions, state, node, one);
+    }
+    prefix_built(alloc, questions, state, node, one)
+}
+
+/// An operator in front of its operand (5.3.1, 5.3.2). A pointer to a member is left out.
 #[tactic(auto, using(crate::proofs::Kept::later_refl), unfolding(crate::specs::Operators::prefix))]
 pub fn prefix<Q: Questions>(
     alloc: Global,
@@ -336,10 +390,11 @@ pub fn prefix<Q: Questions>(
     match only_child(state, &node) {
         None => Err(Stop::Fault(misshapen(alloc, node.start)?)),
         Some(one) => {
-            if asks_operator(state, one) {
-                return prefix_asked(alloc, questions, state, node, one);
+            if points_to_member(state, &node, one) {
+                let text = FaultText::LeftOut(LeftOut::PointerToMember);
+                return Err(Stop::Fault(fault(alloc, node.start, text)?));
             }
-            prefix_built(alloc, questions, state, node, one)
+            prefix_by(alloc, questions, state, node, one)
         }
     }
 }

@@ -13,7 +13,8 @@ ghost use Rattle.cxx_meaning.specs.Conversions.Casts.{cast as cast_of};
 ghost use Rattle.cxx_expr.specs.Built.{MakesBuilt};
 ghost use Rattle.cxx_expr.specs.Casting.{MakesCast};
 ghost use Rattle.cxx_expr.specs.Questions as definition;
-ghost use Rattle.cxx_expr.specs.Views.{AreFactsKnown, AreOperandsBelow, IsChosen, chosen_of, member_question_of, numbered, operands_in, question_of};
+ghost use Rattle.cxx_expr.specs.Views.{AreFactsKnown, AreOperandsBelow, IsChosen, IsClassKnown, chosen_of, class_of_number, class_of_option, member_question_of, numbered, operands_in, question_of};
+ghost use Rattle.cxx_model.specs.Facts.Graph.{IsClassNumberInRange};
 
 use cxx_builtin::{BuiltIn, ResultFault};
 use cxx_casts::CastSteps;
@@ -46,6 +47,12 @@ pub trait Questions {
     fn name(&self, state: &mut State, path: &Path) -> Result<FactList, Stop>
         requires { is_ready self.now }
         ensures { IsAnswered numbered AreFactsKnown state.old state.new result ((asks self.now).name (path_at path.now) (meaning state.old)) };
+
+    /// The class in which a name is looked up behind an object of a class (3.4.5).
+    fn naming(&self, state: &mut State, class: ClassId, path: &Path) -> Result<ClassId, Stop>
+        requires ready { is_ready self.now }
+        requires class { class.0 < length (state.old).graph.classes }
+        ensures { IsAnswered class_of_number IsClassKnown state.old state.new result ((asks self.now).naming class.0 (path_at path.now) (meaning state.old)) };
 
     /// All declarations that a name means as a member of a class (10.2).
     fn member(&self, state: &mut State, class: ClassId, path: &Path) -> Result<FactList, Stop>
@@ -105,6 +112,12 @@ pub trait Questions {
         requires ready { is_ready self.now }
         requires known { of.0 < length (state.old).types }
         ensures { IsAnswered itself AnyKnown state.old state.new result ((asks self.now).size (type_of state.old of) (meaning state.old)) };
+
+    /// The class that the qualifiers of a name mean where it stands, if they mean one (3.4.3.1).
+    fn qualifier(&self, state: &State, path: &Path) -> Result<Option<ClassId>, OutOfMemory>
+        requires ready { is_ready self.now }
+        ensures is { IfOk result (λ class. class_of_option class ≡ (asks self.now).qualifier (path_at path.now) (meaning state.now)) }
+        ensures there { IfOk result (IsClassNumberInRange (state.now).graph) };
 
     /// Whether an expression is an integral constant with the value zero (5.19).
     fn is_null(&self, state: &State, number: TreeId) -> Result<bool, OutOfMemory>

@@ -259,7 +259,7 @@ static_call class number target = tree_of (record (by_name (called number target
 -- a call of a member of an object or of what a pointer points to, by the production
 abbrev member_call : ℕ → ℕ → ℕ → CxxTree → List CxxTree → CxxTree
 member_call production number target object arguments =
-    tree_of (called number target) (tree_of (record (by_name (label production (codes "("))) { of = Some (class_type 0); target = Some target }) (object ∷ []) ∷ arguments)
+    tree_of (called number target) (tree_of (record (by_name (label production (codes "("))) { target = Some target }) (object ∷ []) ∷ arguments)
 
 abbrev with_calls_of_members : CxxState
 with_calls_of_members =

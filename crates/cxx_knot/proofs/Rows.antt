@@ -520,8 +520,8 @@ row_52_called : row level.Whole 9 (codes "f(1).b = 2") ≡ Read (codes " =[ .b[ 
 unfolding row expression_row
 row_52_called = refl
 
--- 3.4.3: a member with qualifiers is not read yet
-row_52_qualified : row level.Whole 9 (codes "a.N::b") ≡ Broken 3 says.NotBuilt
+-- 3.4.5: a member with qualifiers
+row_52_qualified : row level.Whole 9 (codes "a.N::b") ≡ Read (codes " .N::b[ a]") 7
 unfolding row expression_row
 row_52_qualified = refl
 

@@ -22,8 +22,9 @@ use Rattle.cxx_reading.specs.Productions as production
 use Rattle.cxx_reading.specs.Reads.{Reads, Ahead, Asks, Turn, More, Done, ◌>>=◌, got, give, ask, fault_at, limited, looked, taken, tokens, kind_ahead, place_ahead, word_ahead, count_ahead, behind, repeat}
 use Rattle.cxx_reading.specs.Specifiers.{class_key, path_of_option, place_or, specifiers_at, specifiers_from}
 use Rattle.cxx_reading.specs.State.{CxxState}
-use Rattle.cxx_reading.specs.Syntax.{declarator_at}
+use Rattle.cxx_reading.specs.Syntax.{declarator_at, token_of}
 use Rattle.cxx_declare.specs.Outside.{stand_in}
+use Rattle.cxx_declare.specs.OutsideClasses.{enter_class}
 use Rattle.cxx_reading.specs.Tokens.{begins_name, is_plain_name, is_punct, is_keyword, is_name, is_number, not_built, path_taken, punct_taken, refused, token_in}
 use Rattle.cxx_reading.specs.Trees.{CxxPath, CxxTree, in_turn, last_part, tree_of}
 use Rattle.cxx_reading.specs.Units.{Said, Listed, declarator_tree, declared_fits, give_trees, is_const_type, is_incomplete, is_unbounded, name_in, no_declarators, nothing_declared, said_by, simple_tree, specifiers_tree}
@@ -35,6 +36,7 @@ use Rattle.cxx_declare.specs.ClassDefinitions.{begin_class, begin_unnamed, decla
 use Rattle.cxx_language.specs.Asked.{asked, inner_at}
 use Rattle.cxx_language.specs.Bodies.{standing}
 use Rattle.cxx_language.specs.Later.{Declares, all_read, ended_by, member_body}
+use Rattle.cxx_language.specs.Spaces.{member_using_at}
 use Rattle.cxx_language.specs.Synonyms.{bare_synonym}
 use Rattle.cxx_language.specs.Values.{member_value}
 
@@ -61,16 +63,20 @@ behind_name ahead = if is_name (kind_ahead ahead) then behind ahead else ahead
 abbrev pub name_or_none : Reads CxxState (Option Lexeme)
 name_or_none state ahead = got (name_ahead ahead) state (behind_name ahead)
 
--- 9: a class whose name has qualifiers is not defined yet
-abbrev pub no_member_class : Reads CxxState (Unit {0})
-no_member_class state ahead = if begins_name (behind ahead) && not (is_plain_name (behind ahead)) then not_built state ahead else got tt state ahead
+-- 9, 3.4.3: before the last part of a name with qualifiers the reader stands in what declares the class
+abbrev pub name_of_path : CxxPath → Reads CxxState (Option Lexeme)
+name_of_path path = ask (enter_class path) >>= λ entered. give (Some (token_of (last_part path.parts)))
+
+unfoldable pub class_name : Reads CxxState (Option Lexeme)
+class_name state ahead =
+    if begins_name ahead && not (is_plain_name ahead) then (path_taken >>= name_of_path) state ahead else name_or_none state ahead
 
 -- a key and a name, or a key alone, with the `:` of bases or the `{` ahead then
 unfoldable pub head_at : Reads CxxState Head
 head_at = do
   from ← looked
   key ← taken
-  name ← name_or_none
+  name ← class_name
   give (record { is_union = is_keyword keyword.UNION (kind_ahead from); access = key_access (kind_ahead from); name = name; place = place_or (place_ahead from) name })
 
 abbrev pub begins_by : Bool → Place → Option Lexeme → Asks CxxState ℕ
@@ -259,16 +265,16 @@ access_step so_far = do
   colon ← tokens (punct_taken punct.COLON)
   give (More (record so_far { access = access_by (kind_ahead from) }))
 
--- 7.3.3, clause 14: with which words other members begin
+-- 12.4, clause 14: with which tokens other members begin
 abbrev pub begins_other : TokenKind → Bool
-begins_other kind = is_keyword keyword.USING kind || (is_keyword keyword.TEMPLATE kind || is_punct punct.TILDE kind)
+begins_other kind = is_keyword keyword.TEMPLATE kind || is_punct punct.TILDE kind
 
 -- 12.1: the name of the class and a bracket
 abbrev pub begins_constructor : Option Lexeme → Ahead → Bool
 begins_constructor None ahead = false
 begins_constructor (Some name) ahead = is_name (kind_ahead ahead) && (bytes_eq (word_ahead ahead) name.spelling && is_punct punct.LEFT_PARENTHESIS (kind_ahead (behind ahead)))
 
--- constructors, destructors, using-declarations and templates of a class are not read yet
+-- constructors, destructors and templates of a class are not read yet
 abbrev pub comes_later : Option Lexeme → Ahead → Bool
 comes_later name ahead = begins_other (kind_ahead ahead) || begins_constructor name ahead
 
@@ -288,13 +294,20 @@ declared_step nested room name so_far state ahead =
     if comes_later name (behind_words ahead) then not_built state (behind_words ahead) else
     (member_declaration_by nested room so_far.access >>= λ tree. give (More (with_member tree so_far))) state ahead
 
--- a member, a label, `;` alone, or the end of the list
+-- 7.3.3: a using-declaration
+unfoldable pub using_step : Members → Reads CxxState (Turn Members (List CxxTree))
+using_step so_far = do
+  brought ← member_using_at so_far.access
+  give (More so_far)
+
+-- a member, a label, a using-declaration, `;` alone, or the end of the list
 unfoldable pub list_step_by : (Specifiers → Reads CxxState Specifiers) → ℕ → Option Lexeme → Members → Reads CxxState (Turn Members (List CxxTree))
 list_step_by nested room name so_far state ahead =
     if is_punct punct.RIGHT_BRACE (kind_ahead ahead) then got (Done so_far.trees) state (behind ahead) else (
     if is_punct punct.SEMICOLON (kind_ahead ahead) then got (More so_far) state (behind ahead) else (
-    if access_word (kind_ahead ahead) then access_step so_far state ahead else
-    declared_step nested room name so_far state ahead))
+    if access_word (kind_ahead ahead) then access_step so_far state ahead else (
+    if is_keyword keyword.USING (kind_ahead ahead) then using_step so_far state ahead else
+    declared_step nested room name so_far state ahead)))
 
 abbrev pub give_members : Members → Reads CxxState (List CxxTree)
 give_members so_far = give so_far.trees
@@ -397,13 +410,14 @@ unfoldable pub class_by : (Head → List CxxTree → Reads CxxState (List CxxTre
 class_by list so_far = do
   outside ← standing
   from ← looked
-  plain ← no_member_class
   head ← head_at
+  home ← standing
   number ← ask (class_begins head)
-  bases ← bases_or_none outside number head.access
+  bases ← bases_or_none home number head.access
   opened ← taken
   members ← list head bases
   ended ← ask (end_class number head.place)
+  outer ← ask (stand_in outside)
   whole ← no_anonymous_union head
   left ← defaults_kept None None
   to ← looked

@@ -1,5 +1,6 @@
 -- Namespaces (7.3.1), their other names (7.3.2), using-declarations (7.3.3) and using-directives (7.3.4).
 use Rattle.std.specs.Prelude.{ℕ, if◌then◌else◌, List, []}
+use Rattle.cxx_model.specs.declared.facts.Access.{Access}
 use Rattle.cxx_model.specs.declared.keyword.TheConstants as keyword
 use Rattle.cxx_model.specs.declared.place.Place.{Place}
 use Rattle.cxx_model.specs.declared.punct.TheConstants as punct
@@ -12,6 +13,7 @@ use Rattle.cxx_reading.specs.State.{CxxState}
 use Rattle.cxx_reading.specs.Tokens.{is_punct, is_keyword, is_name, begins_name, is_plain_name, not_built, path_taken, refused, token_taken, punct_taken}
 use Rattle.cxx_reading.specs.Trees.{CxxPath, CxxTree, last_part, tree_of}
 use Rattle.cxx_reading.specs.Usings.{bring_here}
+use Rattle.cxx_declare.specs.MemberUsings.{bring_member}
 
 abbrev pub part_tree : ℕ → List CxxTree → Ahead → Ahead → CxxTree
 part_tree number inside from to = tree_of (label_from number [] from to) inside
@@ -117,6 +119,15 @@ using_declaration_at = do
   declared ← ask (bring_here path)
   ended ← tokens (punct_taken punct.SEMICOLON)
   give_part production.using_declaration from []
+
+-- 11.1: In a class, where what it brings has an access. It has no tree.
+unfoldable pub member_using_at : Access → Reads CxxState (Unit {0})
+member_using_at label = do
+  using ← taken
+  path ← brought_name_at
+  declared ← ask (bring_member label path)
+  ended ← tokens (punct_taken punct.SEMICOLON)
+  give tt
 
 -- from the word `using` on
 unfoldable pub using_at : Reads CxxState CxxTree

@@ -18,6 +18,7 @@ ghost use Rattle.cxx_declare.specs.Outside as members;
 ghost use Rattle.cxx_reading.specs.Spaces as spaces;
 ghost use Rattle.cxx_reading.specs.Specifiers.{specifiers_from};
 ghost use Rattle.cxx_reading.specs.Syntax.{declarator_at};
+ghost use Rattle.cxx_declare.specs.MemberUsings as member_usings;
 ghost use Rattle.cxx_reading.specs.Usings as usings;
 ghost use Rattle.cxx_cursor.specs.Asking.{AnyKnown, IsAsked, IsTreeKnown, itself, scope_number};
 ghost use Rattle.cxx_cursor.specs.Reading.{IsRead};
@@ -27,7 +28,9 @@ ghost use Rattle.cxx_tree.specs.Arena.{path_at};
 ghost use Rattle.cxx_tree.specs.Held.{meaning, tree, trees, type_of};
 
 use cxx_cursor::{Cursor, Declarator, NameToken, Specifiers, Spelled};
-use cxx_model::{Cv, FactId, Node, OutOfMemory, Path, Place, ScopeId, Stop, TreeId, TypeId};
+use cxx_model::{
+    Access, Cv, FactId, Node, OutOfMemory, Path, Place, ScopeId, Stop, TreeId, TypeId,
+};
 use cxx_phrases::Initializer;
 use cxx_reading::{Naming, SpecifierPlace};
 use cxx_tree::State;
@@ -189,6 +192,10 @@ pub trait Declares {
     /// What a name means in its namespace is declared where the reader stands (7.3.3).
     fn bring_here(&self, state: &mut State, path: &Path) -> Result<(), Stop>
         ensures { IsAsked itself AnyKnown state.old state.new result (usings.bring_here (path_at path.now) (meaning state.old)) };
+
+    /// What a name means in the class before it is declared in the class where the reader stands, with an access (7.3.3, 11.1).
+    fn bring_member(&self, state: &mut State, label: Access, path: &Path) -> Result<(), Stop>
+        ensures { IsAsked itself AnyKnown state.old state.new result (member_usings.bring_member label (path_at path.now) (meaning state.old)) };
 
     /// Whether the namespace where the reader stands has declared a member with a type, or a synonym of it (8.3).
     fn agree_here(

@@ -18,4 +18,4 @@ pub use blocks::read_local_declaration;
 pub use conditions::read_declared_condition;
 pub use declares::{Declares, Reader};
 pub use known::constant_value;
-pub use spaces::{alias_or_not, using_at};
+pub use spaces::{alias_or_not, member_using_at, using_at};

@@ -3,7 +3,7 @@
 ghost use Rattle.std.specs.Prelude.{◌≡◌, []};
 ghost use Rattle.cxx_language.specs.Spaces as definition;
 ghost use Rattle.cxx_language.specs.Views.{IsSpaceKnown, space_of};
-ghost use Rattle.cxx_cursor.specs.Asking.{AnyKnown, IsTreeKnown};
+ghost use Rattle.cxx_cursor.specs.Asking.{AnyKnown, IsTreeKnown, itself};
 ghost use Rattle.cxx_cursor.specs.Making.{GrowsTree};
 ghost use Rattle.cxx_cursor.specs.Reading.{IsRead};
 ghost use Rattle.cxx_cursor.specs.Views.{lexeme_at};
@@ -12,7 +12,7 @@ ghost use Rattle.cxx_tree.specs.Held.{meaning, tree};
 
 use crate::declares::Declares;
 use cxx_cursor::{Cursor, Spelled, is_keyword, is_name, is_punct};
-use cxx_model::{Listed, Path, Place, ScopeId, Stop, TreeId, keyword, punct};
+use cxx_model::{Access, Listed, Path, Place, ScopeId, Stop, TreeId, keyword, punct};
 use cxx_paths::last_place;
 use cxx_tree::State;
 use cxx_units::trees::part_tree;
@@ -190,6 +190,23 @@ fn using_declaration_at<D: Declares>(
     declares.bring_here(state, &path)?;
     cursor.punct(punct::SEMICOLON)?;
     bare_tree(state, production::USING_DECLARATION, &from, cursor)
+}
+
+/// A using-declaration in a class, from the word `using` on (7.3.3). What it brings has an access (11.1).
+#[tactic(auto, using(cxx_cursor::proofs::Kept::later_refl, cxx_cursor::proofs::Kept::later_trans), unfolding(crate::specs::Spaces::member_using_at))]
+pub fn member_using_at<D: Declares>(
+    declares: &D,
+    state: &mut State,
+    cursor: &mut Cursor<'_>,
+    label: Access,
+) -> Result<(), Stop>
+    ensures { IsRead itself AnyKnown state.old state.new cursor.new result (definition.member_using_at label (meaning state.old) cursor.old) }
+{
+    cursor.advance();
+    let path = brought_name_at(state, cursor)?;
+    declares.bring_member(state, label, &path)?;
+    cursor.punct(punct::SEMICOLON)?;
+    Ok(())
 }
 
 /// What begins with the word `using` (7.3.3, 7.3.4).

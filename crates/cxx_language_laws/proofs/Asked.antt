@@ -10,9 +10,10 @@ use Rattle.cxx_model.specs.declared.lookup.MemberFound.{MemberFound}
 use Rattle.cxx_model.specs.declared.lookup.MemberFound.TheVariants as member_found
 use Rattle.cxx_model.specs.declared.place.Place.{Place}
 use Rattle.cxx_model.specs.declared.stop.Fault.{Fault}
+use Rattle.cxx_model.specs.declared.types.ClassId.{ClassId}
 use Rattle.cxx_model.specs.declared.types.FactId.{FactId}
 use Rattle.cxx_model.specs.Facts.Declarations.{CxxGraph}
-use Rattle.cxx_model.specs.Stops.{Answer, Stopped, ◌>>=◌, fault, undeclared_at, not_built_at}
+use Rattle.cxx_model.specs.Stops.{Answer, Stopped, ◌>>=◌, fault, undeclared_at}
 use Rattle.cxx_model.specs.Types.Trees.{CxxType}
 use Rattle.cxx_meaning.specs.Conversions.Standard.{CxxOperand}
 use Rattle.cxx_meaning.specs.Lookups.Member.{member}
@@ -32,20 +33,20 @@ use Rattle.cxx_reading.specs.Tokens.{begins_name, behind_name, is_whole_name, pa
 use Rattle.cxx_reading.specs.Trees.{CxxPath, CxxPathPart, CxxTree, children_of, each_tree, in_turn, is_plain_path, last_part, Label}
 use Rattle.cxx_tree.specs.Defaults.{first_given, with_offer, within_default}
 use Rattle.cxx_tree.specs.Uses.{with_use}
-use Rattle.cxx_expr.specs.Calls.{bare_word, class_called, implied_type, is_bare, member_question, name_alone}
-use Rattle.cxx_this.specs.This.{class_at}
+use Rattle.cxx_expr.specs.Calls.{bare_word, implied_type, is_bare, member_question, name_alone}
 use Rattle.cxx_expr.specs.Implied.{object_for}
 use Rattle.cxx_expr.specs.Members.{class_of_object}
 use Rattle.cxx_expr.specs.Names.{is_none_left, part_or, path_in, values_among, word_in}
 use Rattle.cxx_expr.specs.Operands.{object_operand}
 use Rattle.cxx_expr.specs.Elaborating.{elaborate}
 use Rattle.cxx_language.specs.Answers.{asking}
-use Rattle.cxx_answers.specs.Answers.{associated_functions, bound_here, call_here, constant_by, constant_here, fallback_by, fallback_here, fresh_among, is_held, is_not_built, meant_in, name_here, name_in_region, name_meant, names_local, names_tested, questions, scope_of_giver, size_here, word_or_none}
+use Rattle.cxx_answers.specs.Answers.{associated_functions, bound_here, call_here, constant_by, constant_here, fallback_by, fallback_here, fresh_among, is_held, meant_in, name_here, name_in_region, name_meant, names_local, names_tested, questions, scope_of_giver, size_here, word_or_none}
 use Rattle.cxx_answers.specs.Defaults.{begin_default, class_of_list, end_default, is_class_open, is_default_later, is_list_of_class, offer_default, offered_as}
 use Rattle.cxx_answers.specs.Members.{has_begun, in_state, member_found as member_answered, member_here}
 use Rattle.cxx_language.specs.Asked.{answers, asked, inner_at, phrases_at}
 use Rattle.cxx_language_laws.specs.Best.{IsClear, asked_word, functions_by_types, values_besides, values_of}
-use Rattle.cxx_language_laws.specs.Told.{AreImpliedCalled, HasNoValue, IsFoundClear, IsMemberCall, IsOfObject, of_object, of_pointed, IsSelector, IsSoughtCalled, IsSoughtMember, IsUnitCall, IsUnitCallOf, IsUnitSelected, called, called_by_types, declared_then, member_part, nothing_in, operands, place_of_call, selected_part, twofold_called, twofold_member, unknown_call, unknown_called, unknown_member}
+use Rattle.cxx_language_laws.specs.Told.{AreImpliedCalled, HasNoValue, IsFoundClear, IsMemberCall, IsNamingClass, IsOfObject, behind_called, behind_selector, of_object, of_pointed, IsSelector, IsSoughtCalled, IsSoughtMember, IsUnitCall, IsUnitCallOf, IsUnitSelected, called, called_by_types, declared_then, member_part, nothing_in, operands, place_of_call, selected_part, twofold_called, twofold_member, unknown_call, unknown_called, unknown_member}
+use Rattle.cxx_language_laws.proofs.Behind.{named_class, naming_so, naming_told}
 use Rattle.cxx_language_laws.proofs.CallsTell.{NothingTold, asked_for, call_asked_tells, implied_asked_tells, member_asked_tells}
 use Rattle.cxx_language_laws.proofs.Classed.{class_tells}
 use Rattle.cxx_language_laws.proofs.Later.{IsLater, by_answer, later_same, later_is_kept, later_is_quiet, calmly, turned, parameter_answer_tells, enumeration_answer_tells, enumerator_answer_tells, enumerated_tells, kind_tells, type_tells}
@@ -62,7 +63,7 @@ use Rattle.cxx_language_laws.proofs.TellsConversions.{convert_tells}
 use Rattle.cxx_language_laws.proofs.TellsDefaults.{OffersTell}
 use Rattle.cxx_language_laws.proofs.TellsExpressions.{plain_tells, name_tells, call_tells, through_call_tells, member_tells, arrow_tells}
 use Rattle.cxx_language_laws.proofs.TellsKnot.{type_id_tells}
-use Rattle.cxx_language_laws.proofs.TellsMembers.{MemberTells, MembersTell}
+use Rattle.cxx_language_laws.proofs.TellsMembers.{FunctionsTell, MemberTells, MembersTell, WithinTells}
 use Rattle.cxx_language_laws.proofs.TellsNames.{AskedFor, AskedImplied, AskedOf, CalledTells, IsAskedSo, NameTells, UnknownUnasked}
 
 -- ---- the types of names behind `enum`
@@ -167,8 +168,7 @@ if_named false one two = two
 meant_so : (path : CxxPath) (state : CxxState) (where_ : Region) → MeansRegion path state where_ → IsClear (sought_there path state where_) → NamedSo path state (name_meant path (meant_there path state where_) state)
 meant_so path state where_ means clear =
     if_named (state.in_default && names_local state.graph (meant_there path state where_)) (not_named (fault (last_part path.parts).place says.OperandsDoNotFit) refl) (
-    if_named (state.in_step && names_tested state.tested state.here.scope (meant_there path state where_)) (not_named (fault (last_part path.parts).place (says.LeftOut form.ConditionNameInStep)) refl) (
-    if_named (is_not_built (is_plain_path path) (meant_there path state where_)) (not_named (not_built_at (last_part path.parts).place) refl) (named_so where_ means clear)))
+    if_named (state.in_step && names_tested state.tested state.here.scope (meant_there path state where_)) (not_named (fault (last_part path.parts).place (says.LeftOut form.ConditionNameInStep)) refl) (named_so where_ means clear))
 
 region_so : (path : CxxPath) (state : CxxState) (where_ : Region) → MeansRegion path state where_ → NamedSo path state (name_in_region path where_ state)
 region_so path state where_ means = by (sought_there path state where_) refl (clear_or state.graph (last_part path.parts) (sought_there path state where_))
@@ -374,27 +374,15 @@ asked_by_name state ahead rest room call later from clear asked =
     subst (λ (word : Option (List ℕ)). ToldBy IsLater (ToldSince state ahead) call.at rest (call_here (record (asked_for call clear) { word = word }) call.at)) (sym (word_of_call call from))
     (call_asked_tells state ahead rest room call clear (λ why told later. told) (nothing_told state ahead room call later clear from asked))
 
--- where it has no qualifiers and stands in a class
-plain_in_class : (graph : CxxGraph) (label : Label) (scope : ℕ) (class : CxxType) → class_called graph label scope ≡ Some class → (is_plain_path (path_in label) ≡ true) × (class_at graph scope ≡ Some class)
-plain_in_class graph label scope class e = by (is_plain_path (path_in label)) e
-  where
-    by : (b : Bool) → (if b then class_at graph scope else None) ≡ Some class → (b ≡ true) × (class_at graph scope ≡ Some class)
-    by true e = (refl, e)
-    by false e = absurd cc
-
--- 13.3.1.1.1 p3: by its name alone, where that means functions of a class
+-- 13.3.1.1.1 p3: without an object, where it means functions of a class
 asked_implied_so : (state : CxxState) (ahead rest : Ahead) (room : ℕ) (call : IsUnitCall room state ahead) (from : Ahead) (clear : IsFoundClear call)
     → AskedImplied IsLater (ToldSince state ahead) answers (tree_of_call call from) call.arguments (values_of call.at.graph clear.where_ (name_in (called call))) call.at rest
 unfolding questions object_for
 asked_implied_so state ahead rest room call from clear one others class are in_class =
     implied_asked_tells state ahead rest room call (object_operand (implied_type class (object_for call.at one.fact.scope))) (one ∷ others) implied (λ why told later. told)
   where
-    plain : (is_plain_path (called call) ≡ true) × (class_at call.at.graph one.fact.scope ≡ Some class)
-    plain = plain_in_class call.at.graph (tree_of_call call from).label one.fact.scope class in_class
-
     implied : AreImpliedCalled call (object_operand (implied_type class (object_for call.at one.fact.scope))) (one ∷ others)
     implied = record {
-      is_plain = plain.0;
       where_ = clear.where_;
       qualifies = clear.qualifies;
       clear = clear.clear;
@@ -403,7 +391,7 @@ asked_implied_so state ahead rest room call from clear one others class are in_c
       others = others;
       first = refl;
       class = class;
-      of_class = plain.1;
+      of_class = in_class;
       is_object = refl;
     }
 
@@ -483,33 +471,45 @@ abbrev tree_of_member : {room : ℕ} {state : CxxState} {ahead : Ahead} → IsUn
 tree_of_member {ahead = ahead} is number = member_tree number (place_ahead ahead) (path_ahead (behind ahead)) is.object is.from (behind_name (behind ahead))
 
 -- in the state in which it is looked up
-member_sought : (state : CxxState) (ahead : Ahead) (room : ℕ) (is : IsUnitSelected room state ahead) (class : ℕ) (at : CxxState) → IsOfObject state (place_ahead ahead) is.object is.number class at → (finds : MemberFound) → member at.graph any_name (record { 0 = class }) (name_in (path_ahead (behind ahead))) ≡ Ok finds → (fault : Fault) → (selected_part ahead).place ≡ fault.place → IsSoughtMember state ahead finds fault (selected_part ahead).word
-member_sought state ahead room is class at of finds e fault is_at = record { room = room; selected = is; class = class; at = at; of = of; spelled_so = refl; is_at = is_at; finds_so = e }
+member_sought : (state : CxxState) (ahead : Ahead) (room : ℕ) (is : IsUnitSelected room state ahead) (class : ℕ) (at : CxxState) → IsOfObject state (place_ahead ahead) is.object is.number class at → (within : ClassId) → IsNamingClass at class (path_ahead (behind ahead)) within → (finds : MemberFound) → member at.graph any_name within (name_in (path_ahead (behind ahead))) ≡ Ok finds → (fault : Fault) → (selected_part ahead).place ≡ fault.place
+    → IsSoughtMember state ahead finds fault (selected_part ahead).word
+member_sought state ahead room is class at of within qualifies finds e fault is_at = record { room = room; selected = is; class = class; at = at; of = of; within = within; qualifies = qualifies; spelled_so = refl; is_at = is_at; finds_so = e }
 
-member_unknown : (state : CxxState) (ahead : Ahead) (room : ℕ) (is : IsUnitSelected room state ahead) (class : ℕ) (at : CxxState) → IsLater state at → IsOfObject state (place_ahead ahead) is.object is.number class at → (one : List Numbered × CxxState) → member_here class (path_ahead (behind ahead)) at ≡ Ok one → one.0 ≡ [] → IsUntold state ahead (selected_part ahead)
-member_unknown state ahead room is class at later of one e none =
+member_unknown : (state : CxxState) (ahead : Ahead) (room : ℕ) (is : IsUnitSelected room state ahead) (class : ℕ) (at : CxxState) → IsLater state at → IsOfObject state (place_ahead ahead) is.object is.number class at → (within : ClassId) → IsNamingClass at class (path_ahead (behind ahead)) within → (one : List Numbered × CxxState) → member_here within.0 (path_ahead (behind ahead)) at ≡ Ok one → one.0 ≡ []
+    → IsUntold state ahead (selected_part ahead)
+member_unknown state ahead room is class at later of within qualifies one e none =
     reached_here state ahead (IsUndeclared (undeclared_fault (selected_part ahead)) (selected_part ahead).word) (record {
-      is = λ scopes. (unknown_member (member_sought state ahead room is class at of member_found.Empty (is_no_member class (path_ahead (behind ahead)) at one (later.scopes scopes).sound (member_so class (path_ahead (behind ahead)) at) e none) (undeclared_fault (selected_part ahead)) refl), tt);
+      is = λ scopes. (unknown_member (member_sought state ahead room is class at of within qualifies member_found.Empty (is_no_member within.0 (path_ahead (behind ahead)) at one (later.scopes scopes).sound (member_so within.0 (path_ahead (behind ahead)) at) e none) (undeclared_fault (selected_part ahead)) refl), tt);
       bare = refl;
     })
 
-member_told : (state : CxxState) (ahead : Ahead) (room : ℕ) (is : IsUnitSelected room state ahead) (class : ℕ) (at : CxxState) → IsOfObject state (place_ahead ahead) is.object is.number class at → {answer : NameAnswers} → MemberSo class (path_ahead (behind ahead)) at answer → ToldBy IsLater (ToldSince state ahead) at ahead answer
+member_told : (state : CxxState) (ahead : Ahead) (room : ℕ) (is : IsUnitSelected room state ahead) (class : ℕ) (at : CxxState) → IsOfObject state (place_ahead ahead) is.object is.number class at → (within : ClassId) → IsNamingClass at class (path_ahead (behind ahead)) within → {answer : NameAnswers} → MemberSo within.0 (path_ahead (behind ahead)) at answer
+    → ToldBy IsLater (ToldSince state ahead) at ahead answer
 unfolding member_sought
-member_told state ahead room is class at of (no_member e) = same_by (later_is_told_since state ahead) [] at ahead
-member_told state ahead room is class at of (some_members all bases e) = same_by (later_is_told_since state ahead) (numbered_at at.graph (fact_numbers all)) at ahead
-member_told state ahead room is class at of (member_refused why quiet) = quiet_by (later_is_told_since state ahead) quiet
-member_told state ahead room is class at of (member_twice one two e) =
+member_told state ahead room is class at of within qualifies (no_member e) = same_by (later_is_told_since state ahead) [] at ahead
+member_told state ahead room is class at of within qualifies (some_members all bases e) = same_by (later_is_told_since state ahead) (numbered_at at.graph (fact_numbers all)) at ahead
+member_told state ahead room is class at of within qualifies (member_refused why quiet) = quiet_by (later_is_told_since state ahead) quiet
+member_told state ahead room is class at of within qualifies (member_twice one two e) =
     tells_refusal _ (λ later. reached_here state ahead (IsManifold ambiguous (selected_part ahead).word)
-    (λ scopes. twofold_member one two (member_sought state ahead room is class at of (member_found.Ambiguous one two) e ambiguous refl) (class_apart at.graph any_name (name_in (path_ahead (behind ahead))) (record { 0 = class }) one two (later.scopes scopes).sound e) refl))
+    (λ scopes. twofold_member one two (member_sought state ahead room is class at of within qualifies (member_found.Ambiguous one two) e ambiguous refl) (class_apart at.graph any_name (name_in (path_ahead (behind ahead))) within one two (later.scopes scopes).sound e) refl))
   where
     ambiguous : Fault
     ambiguous = record { place = (selected_part ahead).place; text = says.AmbiguousName (selected_part ahead).word; evidence = by_bases at.graph one ∷ by_bases at.graph two ∷ [] }
 
+within_answers : (state : CxxState) (ahead : Ahead) (room : ℕ) (is : IsUnitSelected room state ahead) (number class : ℕ) (at : CxxState) → IsLater state at → IsOfObject state (place_ahead ahead) is.object is.number class at → (within : ClassId) → IsNamingClass at class (path_ahead (behind ahead)) within → WithinTells IsLater (ToldSince state ahead) answers within.0 (tree_of_member is number).label at ahead
+unfolding questions
+within_answers state ahead room is number class at later of within qualifies = record {
+  answers = member_told state ahead room is class at of within qualifies (member_so within.0 (path_ahead (behind ahead)) at);
+  unknown = λ one e none again. subst (IsUntold state ahead) (sym (word_is (path_ahead (behind ahead)).parts)) (member_unknown state ahead room is class at later of within qualifies one e none);
+}
+
+-- 3.4.5: in the class that its qualifiers mean
 member_answers : (state : CxxState) (ahead : Ahead) (room : ℕ) (is : IsUnitSelected room state ahead) (number class : ℕ) (at : CxxState) → IsLater state at → IsOfObject state (place_ahead ahead) is.object is.number class at → MemberTells IsLater (ToldSince state ahead) answers class (tree_of_member is number).label at ahead
 unfolding questions
 member_answers state ahead room is number class at later of = record {
-  answers = member_told state ahead room is class at of (member_so class (path_ahead (behind ahead)) at);
-  unknown = λ one e none again. subst (IsUntold state ahead) (sym (word_is (path_ahead (behind ahead)).parts)) (member_unknown state ahead room is class at later of one e none);
+  naming = naming_told state ahead ahead (path_ahead (behind ahead)) class at (behind_selector room is class at of) (naming_so class (path_ahead (behind ahead)) at);
+  members = λ one e. let named = named_class class (path_ahead (behind ahead)) at one (naming_so class (path_ahead (behind ahead)) at) e in
+      subst (λ (x : ℕ × CxxState). WithinTells IsLater (ToldSince state ahead) answers x.0 (tree_of_member is number).label x.1 ahead) named.is (within_answers state ahead room is number class at later of named.within named.qualifies);
 }
 
 member_ahead_tells : (room : ℕ) (state : CxxState) (ahead : Ahead) (is : IsUnitSelected room state ahead) → ToldBy IsLater Told state ahead (elaborate answers (tree_of_member is is.number) state)
@@ -538,27 +538,29 @@ part_is : {room : ℕ} {state : CxxState} {ahead : Ahead} (is : IsMemberCall roo
 part_is is = word_is (called_path is).parts
 
 -- what is found of it, at the place of a fault
-called_sought : (state : CxxState) (ahead : Ahead) (room : ℕ) (is : IsMemberCall room state ahead) (of : CxxType) → is.call.callee.label.of ≡ Some of → (class : ℕ) → class_of_object (object_operand of) ≡ Some class → (finds : MemberFound) → member (declared_then is) any_name (record { 0 = class }) (name_in (called_path is)) ≡ Ok finds → (fault : Fault) → (last_part (called_path is).parts).place ≡ fault.place
+called_sought : (state : CxxState) (ahead : Ahead) (room : ℕ) (is : IsMemberCall room state ahead) (of : CxxType) → is.call.callee.label.of ≡ Some of → (class : ℕ) → class_of_object (object_operand of) ≡ Some class → (within : ClassId) → IsNamingClass is.call.at class (called_path is) within → (finds : MemberFound) → member (declared_then is) any_name within (name_in (called_path is)) ≡ Ok finds → (fault : Fault) → (last_part (called_path is).parts).place ≡ fault.place
     → IsSoughtCalled state ahead finds fault (last_part (called_path is).parts).word
-called_sought state ahead room is of typed class so finds e fault is_at = record {
+called_sought state ahead room is of typed class so within qualifies finds e fault is_at = record {
   room = room;
   is = is;
   of = of;
   typed = typed;
   class = class;
   of_object = so;
+  within = within;
+  qualifies = qualifies;
   spelled_so = ap (λ (part : CxxPathPart). part.word) (part_is is);
   is_at = ap (λ (part : CxxPathPart). part.place) (part_is is) ∙ is_at;
   finds_so = e;
 }
 
 -- where no function is found
-called_unknown : (state : CxxState) (ahead : Ahead) (room : ℕ) (is : IsMemberCall room state ahead) (of : CxxType) → is.call.callee.label.of ≡ Some of → (class : ℕ) → class_of_object (object_operand of) ≡ Some class → (finds : MemberFound) → member (declared_then is) any_name (record { 0 = class }) (name_in (called_path is)) ≡ Ok finds → HasNoValue (declared_then is) finds
+called_unknown : (state : CxxState) (ahead : Ahead) (room : ℕ) (is : IsMemberCall room state ahead) (of : CxxType) → is.call.callee.label.of ≡ Some of → (class : ℕ) → class_of_object (object_operand of) ≡ Some class → (within : ClassId) → IsNamingClass is.call.at class (called_path is) within → (finds : MemberFound) → member (declared_then is) any_name within (name_in (called_path is)) ≡ Ok finds → HasNoValue (declared_then is) finds
     → Told state ahead (undeclared_at (member_part is).place [])
 unfolding called_sought
-called_unknown state ahead room is of typed class so finds e none =
+called_unknown state ahead room is of typed class so within qualifies finds e none =
     reached_here state ahead (IsUndeclared fault []) (record {
-      is = λ scopes. (unknown_called finds (last_part (called_path is).parts).word (called_sought state ahead room is of typed class so finds e fault (sym (ap (λ (part : CxxPathPart). part.place) (part_is is)))) none refl, tt);
+      is = λ scopes. (unknown_called finds (last_part (called_path is).parts).word (called_sought state ahead room is of typed class so within qualifies finds e fault (sym (ap (λ (part : CxxPathPart). part.place) (part_is is)))) none refl, tt);
       bare = refl;
     })
   where
@@ -566,14 +568,14 @@ called_unknown state ahead room is of typed class so finds e none =
     fault = record { place = (member_part is).place; text = says.UndeclaredName []; evidence = [] }
 
 -- where it is looked up
-called_told : (state : CxxState) (ahead rest : Ahead) (room : ℕ) (is : IsMemberCall room state ahead) (of : CxxType) → is.call.callee.label.of ≡ Some of → (class : ℕ) → class_of_object (object_operand of) ≡ Some class → {answer : NameAnswers} → MemberSo class (called_path is) is.call.at answer → ToldBy IsLater (ToldSince state ahead) is.call.at rest answer
+called_told : (state : CxxState) (ahead rest : Ahead) (room : ℕ) (is : IsMemberCall room state ahead) (of : CxxType) → is.call.callee.label.of ≡ Some of → (class : ℕ) → class_of_object (object_operand of) ≡ Some class → (within : ClassId) → IsNamingClass is.call.at class (called_path is) within → {answer : NameAnswers} → MemberSo within.0 (called_path is) is.call.at answer → ToldBy IsLater (ToldSince state ahead) is.call.at rest answer
 unfolding called_sought
-called_told state ahead rest room is of typed class so (no_member e) = same_by (later_is_told_since state ahead) [] is.call.at rest
-called_told state ahead rest room is of typed class so (some_members all bases e) = same_by (later_is_told_since state ahead) (numbered_at (declared_then is) (fact_numbers all)) is.call.at rest
-called_told state ahead rest room is of typed class so (member_refused why quiet) = quiet_by (later_is_told_since state ahead) quiet
-called_told state ahead rest room is of typed class so (member_twice one two e) =
+called_told state ahead rest room is of typed class so within qualifies (no_member e) = same_by (later_is_told_since state ahead) [] is.call.at rest
+called_told state ahead rest room is of typed class so within qualifies (some_members all bases e) = same_by (later_is_told_since state ahead) (numbered_at (declared_then is) (fact_numbers all)) is.call.at rest
+called_told state ahead rest room is of typed class so within qualifies (member_refused why quiet) = quiet_by (later_is_told_since state ahead) quiet
+called_told state ahead rest room is of typed class so within qualifies (member_twice one two e) =
     tells_refusal _ (λ later. reached_here state ahead (IsManifold fault word)
-    (λ scopes. twofold_called one two (called_sought state ahead room is of typed class so (member_found.Ambiguous one two) e fault refl) (class_apart (declared_then is) any_name (name_in (called_path is)) (record { 0 = class }) one two (later.scopes scopes).sound e) refl))
+    (λ scopes. twofold_called one two (called_sought state ahead room is of typed class so within qualifies (member_found.Ambiguous one two) e fault refl) (class_apart (declared_then is) any_name (name_in (called_path is)) within one two (later.scopes scopes).sound e) refl))
   where
     word : List ℕ
     word = (last_part (called_path is).parts).word
@@ -585,39 +587,48 @@ called_told state ahead rest room is of typed class so (member_twice one two e) 
 abbrev ChosenTells : {room : ℕ} {state : CxxState} {ahead : Ahead} → IsMemberCall room state ahead → CxxType → Ahead → List Numbered × CxxState → Type 0
 ChosenTells {state = state} {ahead = ahead} is of rest one = ToldBy IsLater (ToldSince state ahead) one.1 rest (call_here (member_question answers is.call.callee.label of (values_among one.1.graph one.0) is.call.arguments one.1) one.1)
 
-called_chosen : (state : CxxState) (ahead rest : Ahead) (room : ℕ) (is : IsMemberCall room state ahead) (of : CxxType) → is.call.callee.label.of ≡ Some of → (class : ℕ) → class_of_object (object_operand of) ≡ Some class → (one : List Numbered × CxxState) {answer : NameAnswers} → MemberSo class (called_path is) is.call.at answer → answer ≡ Ok one → ChosenTells is of rest one
-called_chosen state ahead rest room is of typed class so one (no_member found) e = subst (ChosenTells is of rest) (by e) (
-    member_asked_tells state ahead rest room is of [] typed (λ why told later. told) (λ none. called_unknown state ahead room is of typed class so member_found.Empty found tt) (λ first others some. absurd (no_one some)))
+called_chosen : (state : CxxState) (ahead rest : Ahead) (room : ℕ) (is : IsMemberCall room state ahead) (of : CxxType) → is.call.callee.label.of ≡ Some of → (class : ℕ) → class_of_object (object_operand of) ≡ Some class → (within : ClassId) → IsNamingClass is.call.at class (called_path is) within → (one : List Numbered × CxxState) {answer : NameAnswers} → MemberSo within.0 (called_path is) is.call.at answer → answer ≡ Ok one → ChosenTells is of rest one
+called_chosen state ahead rest room is of typed class so within qualifies one (no_member found) e = subst (ChosenTells is of rest) (by e) (
+    member_asked_tells state ahead rest room is of [] typed (λ why told later. told) (λ none. called_unknown state ahead room is of typed class so within qualifies member_found.Empty found tt) (λ first others some. absurd (no_one some)))
   where
     by : AreNames (Ok ([], is.call.at)) (Ok one) → ([], is.call.at) ≡ one
     by e = cc
 
     no_one : {first : Numbered} {others : List Numbered} → [] ≡ first ∷ others → ⊥
     no_one e = cc
-called_chosen state ahead rest room is of typed class so one (some_members all bases found) e = subst (ChosenTells is of rest) (by e) (
-    member_asked_tells state ahead rest room is of functions typed (λ why told later. told) (λ none. called_unknown state ahead room is of typed class so (member_found.Set all bases) found none)
-    (λ first others some. record { class = class; of_object = so; found = all; way = bases; finds = found; are = refl }))
+called_chosen state ahead rest room is of typed class so within qualifies one (some_members all bases found) e = subst (ChosenTells is of rest) (by e) (
+    member_asked_tells state ahead rest room is of functions typed (λ why told later. told) (λ none. called_unknown state ahead room is of typed class so within qualifies (member_found.Set all bases) found none)
+    (λ first others some. record { class = class; of_object = so; within = within; qualifies = qualifies; found = all; way = bases; finds = found; are = refl }))
   where
     functions : List Numbered
     functions = values_among (declared_then is) (numbered_at (declared_then is) (fact_numbers all))
 
     by : AreNames (Ok (numbered_at (declared_then is) (fact_numbers all), is.call.at)) (Ok one) → (numbered_at (declared_then is) (fact_numbers all), is.call.at) ≡ one
     by e = cc
-called_chosen state ahead rest room is of typed class so one (member_refused why quiet) e = absurd cc
-called_chosen state ahead rest room is of typed class so one (member_twice m n found) e = absurd cc
+called_chosen state ahead rest room is of typed class so within qualifies one (member_refused why quiet) e = absurd cc
+called_chosen state ahead rest room is of typed class so within qualifies one (member_twice m n found) e = absurd cc
 
-functions_tell : (state : CxxState) (ahead rest : Ahead) (room : ℕ) (is : IsMemberCall room state ahead) → MembersTell IsLater (ToldSince state ahead) answers is.call.callee.label is.call.arguments is.call.at rest
+functions_tell : (state : CxxState) (ahead rest : Ahead) (room : ℕ) (is : IsMemberCall room state ahead) (of : CxxType) → is.call.callee.label.of ≡ Some of → (class : ℕ) → class_of_object (object_operand of) ≡ Some class → (within : ClassId) → IsNamingClass is.call.at class (called_path is) within → FunctionsTell IsLater (ToldSince state ahead) answers is.call.callee.label of within.0 is.call.arguments is.call.at rest
 unfolding questions
-functions_tell state ahead rest room is of class typed so = record {
-  answers = called_told state ahead rest room is of typed class so (member_so class (called_path is) is.call.at);
-  chosen = λ one e. called_chosen state ahead rest room is of typed class so one (member_so class (called_path is) is.call.at) e;
+functions_tell state ahead rest room is of typed class so within qualifies = record {
+  answers = called_told state ahead rest room is of typed class so within qualifies (member_so within.0 (called_path is) is.call.at);
+  chosen = λ one e. called_chosen state ahead rest room is of typed class so within qualifies one (member_so within.0 (called_path is) is.call.at) e;
+}
+
+-- 3.4.5: in the class that its qualifiers mean
+callees_tell : (state : CxxState) (ahead rest : Ahead) (room : ℕ) (is : IsMemberCall room state ahead) → MembersTell IsLater (ToldSince state ahead) answers is.call.callee.label is.call.arguments is.call.at rest
+unfolding questions
+callees_tell state ahead rest room is of class typed so = record {
+  naming = naming_told state ahead rest (called_path is) class is.call.at (behind_called room is of class typed so) (naming_so class (called_path is) is.call.at);
+  functions = λ one e. let named = named_class class (called_path is) is.call.at one (naming_so class (called_path is) is.call.at) e in
+      subst (λ (x : ℕ × CxxState). FunctionsTell IsLater (ToldSince state ahead) answers is.call.callee.label of x.0 is.call.arguments x.1 rest) named.is (functions_tell state ahead rest room is of typed class so named.within named.qualifies);
 }
 
 through_ahead_tells : (room : ℕ) (state : CxxState) (ahead : Ahead) (call : IsUnitCallOf room state ahead) → IsLater state call.at → ToldBy IsLater Told state ahead (elaborate answers (called_tree call.callee call.arguments call.from call.rest) call.at)
 through_ahead_tells room state ahead call later =
     let is = later_is_told_since state ahead in
     asked_later state ahead ahead call.at later (through_call_tells is (questions_tell is) call.callee call.arguments call.from call.rest call.at ahead (λ is_member.
-    subst (λ (trees : List CxxTree). MembersTell IsLater (ToldSince state ahead) answers call.callee.label trees call.at ahead) (sym (trees_same call.arguments)) (functions_tell state ahead ahead room (record { call = call; is_member = is_member }))))
+    subst (λ (trees : List CxxTree). MembersTell IsLater (ToldSince state ahead) answers call.callee.label trees call.at ahead) (sym (trees_same call.arguments)) (callees_tell state ahead ahead room (record { call = call; is_member = is_member }))))
 
 -- ---- default arguments (8.3.6)
 

@@ -207,7 +207,7 @@ members_alone : (graph : CxxGraph) (scope : ℕ) (place : Place) (object : Optio
 unfolding functions_of_call with_givers
 members_alone graph scope place object functions operands = append-nil functions
 
--- ---- a call by a name alone that means functions of a class (13.3.1.1.1 p3)
+-- ---- a call by a name without an object that means functions of a class (13.3.1.1.1 p3)
 
 -- what is asked for it
 abbrev pub asked_implied : {room : ℕ} {before : CxxState} {ahead : Ahead} → IsUnitCall room before ahead → CxxOperand → List Numbered → CxxQuestion
@@ -239,10 +239,10 @@ asked_member is of functions = record { place = (member_part is).place; word = N
 
 -- in the state in which its arguments are read
 pub member_asked_tells : {told : CxxState → Ahead → Stopped → Type 0} (state : CxxState) (ahead rest : Ahead) (room : ℕ) (is : IsMemberCall room state ahead) (of : CxxType) (functions : List Numbered) → is.call.callee.label.of ≡ Some of → ((why : Stopped) → Told state ahead why → told is.call.at rest why)
-    → (functions ≡ [] → Told state ahead (undeclared_at (member_part is).place [])) → ((one : Numbered) (others : List Numbered) → functions ≡ one ∷ others → AreMembers (declared_then is) (object_operand of) (path_in is.call.callee.label) functions) → ToldBy IsLater told is.call.at rest (call_here (asked_member is of functions) is.call.at)
+    → (functions ≡ [] → Told state ahead (undeclared_at (member_part is).place [])) → ((one : Numbered) (others : List Numbered) → functions ≡ one ∷ others → AreMembers (declared_then is) is.call.at.here.scope (object_operand of) (path_in is.call.callee.label) functions) → ToldBy IsLater told is.call.at rest (call_here (asked_member is of functions) is.call.at)
 member_asked_tells state ahead rest room is of functions typed goes nothing members =
     question_tells state ahead is.call.at rest (asked_member is of functions) functions (members_alone (declared_then is) is.call.at.here.scope (member_part is).place (Some (object_operand of)) functions (member_operands is)) goes nothing (λ one others e. record {
-      may_mean = inl (record { path = path_in is.call.callee.label; are = members one others e });
+      may_mean = inl (record { scope = is.call.at.here.scope; path = path_in is.call.callee.label; are = members one others e });
       none_is = λ fault none. no_viable_member room is functions (record { of = of; typed = typed; are = members one others e }) none;
       tied_is = λ fault tied. ambiguous_member room is functions (record { of = of; typed = typed; are = members one others e }) tied;
     })

@@ -1,5 +1,5 @@
 -- Where the reading of a class stops, and of the specifiers among which it is defined.
-use Rattle.std.proofs.Common.{arith, ◌≡◌, refl, subst}
+use Rattle.std.proofs.Common.{◌≡◌, refl, subst}
 use Rattle.std.specs.Prelude.{ℕ, zero, suc, Bool, true, false, not, ◌&&◌, ◌||◌, if◌then◌else◌, List, [], Option, Some, None, Ok, Err, ◌++◌}
 use Rattle.cxx_model.specs.declared.facts.Access.{Access}
 use Rattle.cxx_model.specs.declared.fault.FaultText.TheVariants as says
@@ -18,29 +18,31 @@ use Rattle.cxx_declare.specs.Outside.{stand_in}
 use Rattle.cxx_reading.specs.Reads.{Ahead, Got, Reads, More, Done, ◌>>=◌, then_read, answered, ask, taken, looked, give, count_ahead, kind_ahead, place_ahead, behind, fault_at, got}
 use Rattle.cxx_reading.specs.State.{CxxState}
 use Rattle.cxx_reading.specs.Specifiers.{place_or}
-use Rattle.cxx_reading.specs.Tokens.{is_keyword, is_name, is_punct, begins_name, is_plain_name}
+use Rattle.cxx_reading.specs.Tokens.{is_keyword, is_punct}
 use Rattle.cxx_reading.specs.Trees.{CxxTree}
 use Rattle.cxx_reading.specs.Units.{Listed, Said, declared_fits, declarator_tree, give_trees, is_incomplete, is_unbounded, name_in, no_declarators, said_by, simple_tree, specifiers_tree}
 use Rattle.cxx_declare.specs.ClassDefinitions.{end_class, declare_member}
-use Rattle.cxx_language.specs.Classes.{BaseList, Head, Members, access_by, access_step, access_word, bases_at, bases_in, bases_or_none, begins_by, behind_bases, behind_name, class_at, class_begins, class_by, class_tree, comes_later, data_member, declared_member, declared_step, give_members, head_at, is_none, key_access, list_at, list_step, list_step_by, member_at, member_declaration_at, member_declaration_by, member_step, member_specifiers, member_specifiers_by, members_by, name_ahead, named_member_at, nested_or_not, no_anonymous_union, no_bit_field, synonym_member, whole_member, with_class, with_member, type_of_member, Labelled, begins_pure, begins_virtual, behind_virtual, behind_words, body_unless_pure, declared_behind, is_virtual_member, labelled, pure_ahead, pure_taken, value_or_pure, with_tree, words_of_member}
+use Rattle.cxx_language.specs.Bodies.{standing}
+use Rattle.cxx_language.specs.Classes.{BaseList, Head, Members, access_by, access_step, access_word, bases_at, bases_in, bases_or_none, begins_by, behind_bases, class_at, class_begins, class_by, class_tree, comes_later, data_member, declared_member, declared_step, give_members, head_at, is_none, key_access, list_at, list_step, list_step_by, member_at, member_declaration_at, member_declaration_by, member_step, member_specifiers, member_specifiers_by, members_by, named_member_at, nested_or_not, no_anonymous_union, no_bit_field, synonym_member, whole_member, with_class, with_member, type_of_member, Labelled, begins_pure, begins_virtual, behind_virtual, behind_words, body_unless_pure, declared_behind, is_virtual_member, labelled, pure_ahead, pure_taken, using_step, value_or_pure, with_tree, words_of_member}
 use Rattle.cxx_language.specs.Later.{Declares, list_then_body, member_body}
 use Rattle.cxx_later.specs.Defaults.{defaults_kept, later_trees}
 use Rattle.cxx_later.specs.Passing.{body_later, passed_tree}
 use Rattle.cxx_tree.specs.Defaults.{without_offers}
-use Rattle.cxx_language_laws.specs.Stopping.{BeginsClass, Gives, NamesBases, a_class, a_member_declaration, begins_class, behind_member_class, further_specifiers_of, in_bases, in_class, in_member, in_member_declarator, in_member_specifiers, names_bases, next_member, next_member_declarator, some_bases, some_further_specifiers, some_member_declarators, some_members, to_member_class, to_member_declarators, Leads, a_member_value, declarator_of, to_member_value, Part}
+use Rattle.cxx_language_laws.specs.Stopping.{BeginsClass, Gives, NamesBases, a_class, a_class_name, a_member_declaration, begins_class, behind_member_class, further_specifiers_of, in_bases, in_class, in_class_name, in_member, in_member_declarator, in_member_specifiers, in_member_using, names_bases, next_member, next_member_declarator, some_bases, some_further_specifiers, some_member_declarators, some_members, to_member_class, to_member_declarators, Leads, a_member_value, declarator_of, to_member_value, Part}
 use Rattle.cxx_language_laws.specs.Told.{EndsIn}
 use Rattle.cxx_language_laws.proofs.Asked.{kinds_tell}
 use Rattle.cxx_language_laws.proofs.Bases.{bases_stop}
 use Rattle.cxx_language_laws.proofs.Both.{both_tell}
+use Rattle.cxx_language_laws.proofs.Brought.{member_using_stops}
 use Rattle.cxx_language_laws.proofs.ClassBegins.{begin_tells, end_tells, member_tells, unnamed_tells, member_is_there}
+use Rattle.cxx_language_laws.proofs.ClassNames.{class_name_stops}
 use Rattle.cxx_language_laws.proofs.Declared.{bare_synonym_tells, ended_by_tells, give_trees_tells, nothing_tells, one_tree_tells}
 use Rattle.cxx_language_laws.proofs.DeclaratorsStop.{declarator_stops, specifiers_stop, fits_stops}
-use Rattle.cxx_language_laws.proofs.Later.{IsLater, grown_later, grown_same, later_is_kept, later_is_quiet, later_same, same_calls, turned}
+use Rattle.cxx_language_laws.proofs.Later.{IsLater, later_is_kept, later_is_quiet, later_same, turned}
 use Rattle.cxx_language_laws.proofs.Opened.{InSpace, round_grown, stands_in}
-use Rattle.cxx_language_laws.proofs.Reached.{behind_by_later, count_more, later_is_told}
-use Rattle.cxx_language_laws.proofs.Scopes.{scope_is_there, scopes_at}
-use Rattle.cxx_language_laws.proofs.Stopping.{ChainedOf, Inside, InsideBy, Stops, calm, calm_from, innermost_stops, later_here, leads_here, leads_in, quiet_told, repeat_stops, then_calm, told_within, which_in, whole_calm, whole_stops, within_part, then_asked}
-use Rattle.cxx_language_laws.proofs.Tells.{Quietly, Tells, ToldBy, ask_from, behind_stands, ends_later, give_in, if_in, looked_in, next_in, past_stands, punct_in, quiet_in, same_in, taken_in, tells_answer, tells_read, tells_refusal, tells_stop, then_from, then_in, tokens_in, unit_is_told, nothing, saying, whole_stands}
+use Rattle.cxx_language_laws.proofs.Reached.{IsBehind, IsElsewhere, behind_by_later, behind_later, elsewhere_later, later_is_told, returns_later}
+use Rattle.cxx_language_laws.proofs.Stopping.{ChainedOf, Inside, InsideBy, Stops, calm, calm_from, elsewhere_is_held, innermost_stops, later_here, leads_here, leads_in, quiet_told, repeat_stops, then_calm, told_within, which_in, whole_calm, whole_part, whole_stops, within_part, then_asked}
+use Rattle.cxx_language_laws.proofs.Tells.{Quietly, Tells, ToldBy, ToldIn, behind_stands, ends_later, give_in, if_in, looked_in, next_in, past_stands, punct_in, quiet_in, same_in, taken_in, tells_answer, tells_read, tells_refusal, tells_stop, then_from, then_in, tokens_in, unit_is_told, nothing, saying, whole_stands}
 use Rattle.cxx_language_laws.proofs.TellsPassing.{passed_tells}
 use Rattle.cxx_language_laws.proofs.TellsSpecifiers.{further_tell}
 use Rattle.cxx_language.specs.Values.{constant_part, has_value, member_value}
@@ -229,51 +231,70 @@ access_tells so_far state ahead =
     then_in later_is_quiet (tokens_in later_is_quiet (punct_in unit_is_told punct.COLON) state ahead) (λ colon. give_in later_is_quiet (More (record so_far { access = access_by (kind_ahead from) })))))
 
 list_step_stops : (room : ℕ) → ClassStops room → (name : Option Lexeme) (so_far : Members) (state : CxxState) (ahead : Ahead) → Inside (some_members room name so_far) state ahead (list_step room name so_far state ahead)
-unfolding list_step_by declared_step
+unfolding list_step_by declared_step using_step
 list_step_stops room nested name so_far state ahead =
     if_in (is_punct punct.RIGHT_BRACE (kind_ahead ahead)) (calm (next_in later_is_quiet (Done so_far.trees) state ahead)) (
     if_in (is_punct punct.SEMICOLON (kind_ahead ahead)) (calm (next_in later_is_quiet (More so_far) state ahead)) (
     if_in (access_word (kind_ahead ahead)) (calm (access_tells so_far state ahead)) (
+    which_in (is_keyword keyword.USING (kind_ahead ahead)) (λ is. then_calm (leads_here (in_member_using is) (member_using_stops so_far.access state ahead is)) (λ brought. give_in later_is_quiet (More so_far))) (λ none.
     if_in (comes_later name (behind_words ahead)) (calm (quiet_in later_is_quiet refl))
-    (then_calm (leads_here in_member (member_declaration_stops room nested so_far.access state ahead)) (λ tree. give_in later_is_quiet (More (with_member tree so_far)))))))
+    (then_calm (leads_here in_member (member_declaration_stops room nested so_far.access state ahead)) (λ tree. give_in later_is_quiet (More (with_member tree so_far))))))))
 
 members_stop : (room : ℕ) → ClassStops room → (head : Head) (bases : List CxxTree) (state : CxxState) (ahead : Ahead) → Stops (some_members room head.name (behind_bases bases head.access)) state ahead (list_at (suc room) head bases state ahead)
 unfolding list_at class_at
 members_stop room nested head bases state ahead = repeat_stops (some_members room head.name) (list_step room head.name) give_members (λ so_far s ahead fault is. is) (λ so_far more s t ahead rest is. next_member is) (list_step_stops room nested head.name) (λ so_far. give_in later_is_quiet so_far.trees) (count_ahead ahead) (behind_bases bases head.access) state ahead
 
+-- ---- its head
+
+-- behind its name the reader may stand elsewhere
+head_stops : (room : ℕ) (so_far : Specifiers) (state : CxxState) (ahead : Ahead) → InsideBy IsElsewhere (a_class room so_far) state ahead (head_at state ahead)
+unfolding head_at
+head_stops room so_far state ahead = by (class_name_stops state (behind ahead))
+  where
+    head : Option Lexeme → Head
+    head name = record { is_union = is_keyword keyword.UNION (kind_ahead ahead); access = key_access (kind_ahead ahead); name = name; place = place_or (place_ahead ahead) name }
+
+    by : {r : Answer (Got CxxState (Option Lexeme))} → ToldIn IsElsewhere (ChainedOf whole_part a_class_name) state (behind ahead) r → InsideBy IsElsewhere (a_class room so_far) state ahead (then_read r (λ name. give (head name)))
+    by (tells_read one elsewhere stands) = tells_read (record { value = head one.value; state = one.state; rest = one.rest }) elsewhere (ends_later ahead.tokens (behind ahead).tokens one.rest.tokens (behind_stands ahead) stands)
+    by (tells_stop why told) = tells_stop why (told_within (a_class room so_far) a_class_name state state ahead (behind ahead) why in_class_name (behind_by_later state state (later_here state)) (behind_stands ahead) told)
+
 -- ---- its bases
 
--- the reader stands where it did before the class began, and what is declared since is kept
-outside_later : (state begun : CxxState) → InSpace state begun → IsLater state (at_scope state.here.scope begun)
-outside_later state begun is =
-    let outside = at_scope state.here.scope begun in
-    record {
-      grown = grown_later state begun outside is.grown (grown_same begun outside refl);
-      scopes = λ scopes. let there = scope_is_there state scopes in let more = count_more state begun is.grown in scopes_at state.here.scope begun (omega (arith, there, more)) (is.scopes scopes);
-      best = λ all. same_calls begun outside (grown_same begun outside refl) refl (is.best all);
-      here = λ scopes. refl;
-    }
+-- the reader stands in the scope of a class that is declared where it stood at home
+abbrev InHome : CxxState → CxxState → CxxState → Type 0
+InHome home state new = InSpace home new
+
+-- it stands elsewhere then
+in_space_elsewhere : (home begun : CxxState) → InSpace home begun → IsElsewhere home begun
+in_space_elsewhere home begun is = record { grown = is.grown; scopes = is.scopes; best = is.best }
+
+-- what is declared since the class began is kept where the reader stands at home again
+home_later : (home begun : CxxState) → InSpace home begun → IsLater home (at_scope home.here.scope begun)
+home_later home begun is = returns_later home begun (in_space_elsewhere home begun is)
+
+home_behind : (state home t : CxxState) → IsElsewhere state home → IsLater home t → IsBehind state t
+home_behind state home t elsewhere later = elsewhere_is_held.behind state t (elsewhere_later state home t elsewhere later)
 
 -- behind them it stands in the scope of the class again
-entered_again : (room : ℕ) (so_far : Specifiers) (of : BaseList) (state begun : CxxState) (ahead colon : Ahead) → NamesBases state ahead of (at_scope state.here.scope begun) (behind colon) → InSpace state begun → EndsIn ahead.tokens colon.tokens → {r : Answer (Got CxxState (List CxxTree))} → Stops (some_bases of) (at_scope state.here.scope begun) (behind colon) r
-    → InsideBy InSpace (a_class room so_far) state ahead (then_read r (λ bases. ask (stand_in begun.here.scope) >>= λ entered. give bases))
-entered_again room so_far of state begun ahead colon names is stands (tells_read one later ends) =
-    let outside = at_scope state.here.scope begun in
+entered_again : (room : ℕ) (so_far : Specifiers) (of : BaseList) (state home begun : CxxState) (ahead colon : Ahead) → NamesBases state ahead of (at_scope home.here.scope begun) (behind colon) → IsElsewhere state home → InSpace home begun → EndsIn ahead.tokens colon.tokens
+    → {r : Answer (Got CxxState (List CxxTree))} → Stops (some_bases of) (at_scope home.here.scope begun) (behind colon) r → InsideBy (InHome home) (a_class room so_far) state ahead (then_read r (λ bases. ask (stand_in begun.here.scope) >>= λ entered. give bases))
+entered_again room so_far of state home begun ahead colon names elsewhere is stands (tells_read one later ends) =
+    let outside = at_scope home.here.scope begun in
     let inside = begun.here.scope in
     tells_read (record { value = one.value; state = at_scope inside one.state; rest = one.rest })
-    (stands_in state one.state inside (later_is_kept.later state outside one.state (outside_later state begun is) later) (λ scopes. round_grown state.here.scope outside one.state inside later.grown (is.round scopes)))
+    (stands_in home one.state inside (later_is_kept.later home outside one.state (home_later home begun is) later) (λ scopes. round_grown home.here.scope outside one.state inside later.grown (is.round scopes)))
     (ends_later ahead.tokens (behind colon).tokens one.rest.tokens (past_stands ahead colon stands) ends)
-entered_again room so_far of state begun ahead colon names is stands (tells_stop why told) =
-    let outside = at_scope state.here.scope begun in
-    tells_stop why (told_within (a_class room so_far) (some_bases of) state outside ahead (behind colon) why (in_bases names) (behind_by_later state outside (outside_later state begun is)) (past_stands ahead colon stands) told)
+entered_again room so_far of state home begun ahead colon names elsewhere is stands (tells_stop why told) =
+    let outside = at_scope home.here.scope begun in
+    tells_stop why (told_within (a_class room so_far) (some_bases of) state outside ahead (behind colon) why (in_bases names) (home_behind state home outside elsewhere (home_later home begun is)) (past_stands ahead colon stands) told)
 
 -- where the class has some
-bases_or_none_stop : (room : ℕ) (so_far : Specifiers) (head : Head) (state : CxxState) (begun : ℕ × CxxState) (ahead colon : Ahead) → Gives head_at state ahead head state colon → class_begins head state ≡ Ok begun → InSpace state begun.1 → EndsIn ahead.tokens colon.tokens
-    → InsideBy InSpace (a_class room so_far) state ahead (bases_or_none state.here.scope begun.0 head.access begun.1 colon)
+bases_or_none_stop : (room : ℕ) (so_far : Specifiers) (head : Head) (state home : CxxState) (begun : ℕ × CxxState) (ahead colon : Ahead) → Gives head_at state ahead head home colon → class_begins head home ≡ Ok begun → IsElsewhere state home → InSpace home begun.1 → EndsIn ahead.tokens colon.tokens
+    → InsideBy (InHome home) (a_class room so_far) state ahead (bases_or_none home.here.scope begun.0 head.access begun.1 colon)
 unfolding bases_at
-bases_or_none_stop room so_far head state begun ahead colon gives begins is stands =
+bases_or_none_stop room so_far head state home begun ahead colon gives begins elsewhere is stands =
     which_in (is_punct punct.COLON (kind_ahead colon)) (λ has.
-    entered_again room so_far (bases_in begun.0 head.access begun.1.here.scope) state begun.1 ahead colon (names_bases head colon begun gives begins has) is stands (bases_stop (bases_in begun.0 head.access begun.1.here.scope) (at_scope state.here.scope begun.1) (behind colon)))
+    entered_again room so_far (bases_in begun.0 head.access begun.1.here.scope) state home begun.1 ahead colon (names_bases head colon home begun gives begins has) elsewhere is stands (bases_stop (bases_in begun.0 head.access begun.1.here.scope) (at_scope home.here.scope begun.1) (behind colon)))
     (λ none. tells_read (record { value = []; state = begun.1; rest = colon }) is stands)
 
 -- ---- the whole
@@ -285,7 +306,7 @@ data InsideClass (room : ℕ) (so_far : Specifiers) (state : CxxState) (ahead : 
 
 -- where the reading of its members stops
 abbrev MembersStop : ℕ → Type 0
-MembersStop room = (so_far : Specifiers) (head : Head) (bases : List CxxTree) (state opened : CxxState) (ahead rest : Ahead) → BeginsClass state ahead head bases opened rest → InSpace state opened → EndsIn ahead.tokens rest.tokens → InsideClass room so_far state ahead opened rest (list_at room head bases opened rest)
+MembersStop room = (so_far : Specifiers) (head : Head) (bases : List CxxTree) (state opened : CxxState) (ahead rest : Ahead) → BeginsClass state ahead head bases opened rest → IsBehind state opened → EndsIn ahead.tokens rest.tokens → InsideClass room so_far state ahead opened rest (list_at room head bases opened rest)
 
 inside_none : MembersStop zero
 unfolding list_at
@@ -296,61 +317,74 @@ inside_class room nested so_far head bases state opened ahead rest begins is sta
   where
     by : {r : Answer (Got CxxState (List CxxTree))} → Stops (some_members room head.name (behind_bases bases head.access)) opened rest r → InsideClass (suc room) so_far state ahead opened rest r
     by (tells_read one later ends) = read_inside one later ends
-    by (tells_stop why told) = stopped_inside why (told_within (a_class (suc room) so_far) (some_members room head.name (behind_bases bases head.access)) state opened ahead rest why (in_class begins) (record { grown = is.grown; scopes = is.scopes }) stands told)
+    by (tells_stop why told) = stopped_inside why (told_within (a_class (suc room) so_far) (some_members room head.name (behind_bases bases head.access)) state opened ahead rest why (in_class begins) is stands told)
 
 no_anonymous_tells : (head : Head) → Tells IsLater Quietly (no_anonymous_union head)
 unfolding no_anonymous_union
 no_anonymous_tells head state ahead = if_in (head.is_union && (is_none head.name && is_punct punct.SEMICOLON (kind_ahead ahead))) (quiet_in later_is_quiet refl) (same_in later_is_quiet tt state ahead)
 
 -- behind them the reader stands where it did
-abbrev behind_members : Specifiers → Head → ℕ → Ahead → List CxxTree → Reads CxxState Specifiers
-behind_members so_far head number from members = ask (end_class number head.place) >>= λ ended. no_anonymous_union head >>= λ whole. defaults_kept None None >>= λ left. looked >>= λ to. give (with_class so_far number (class_tree head number (members ++ left) from to))
+abbrev behind_end : Specifiers → Head → ℕ → Ahead → List CxxTree → Reads CxxState Specifiers
+behind_end so_far head number from members = no_anonymous_union head >>= λ whole. defaults_kept None None >>= λ left. looked >>= λ to. give (with_class so_far number (class_tree head number (members ++ left) from to))
 
-class_ends : (room : ℕ) (so_far : Specifiers) (head : Head) (number : ℕ) (state opened : CxxState) (ahead rest : Ahead) → InSpace state opened → EndsIn ahead.tokens rest.tokens → {r : Answer (Got CxxState (List CxxTree))} → InsideClass room so_far state ahead opened rest r → Inside (a_class room so_far) state ahead (then_read r (behind_members so_far head number ahead))
-class_ends room so_far head number state opened ahead rest is stands (read_inside one later ends) =
-    calm (then_in later_is_quiet (ask_from one.rest (ends_later ahead.tokens rest.tokens one.rest.tokens stands ends) (end_tells state opened one.state ahead number head.place is later)) (λ ended state after.
+abbrev behind_members : ℕ → Specifiers → Head → ℕ → Ahead → List CxxTree → Reads CxxState Specifiers
+behind_members outside so_far head number from members = ask (end_class number head.place) >>= λ ended. ask (stand_in outside) >>= λ outer. behind_end so_far head number from members
+
+behind_end_tells : (so_far : Specifiers) (head : Head) (number : ℕ) (from : Ahead) (members : List CxxTree) → Tells IsLater Quietly (behind_end so_far head number from members)
+behind_end_tells so_far head number from members state after =
     then_in later_is_quiet (no_anonymous_tells head state after) (λ whole state after.
     then_in later_is_quiet (kept_tells None None state after) (λ left state after.
-    then_in later_is_quiet (looked_in later_is_quiet state after) (λ to. give_in later_is_quiet (with_class so_far number (class_tree head number (one.value ++ left) ahead to)))))))
-class_ends room so_far head number state opened ahead rest is stands (stopped_inside why told) = tells_stop why told
+    then_in later_is_quiet (looked_in later_is_quiet state after) (λ to. give_in later_is_quiet (with_class so_far number (class_tree head number (members ++ left) from to)))))
+
+-- where it has ended, and what is told of that at home
+class_left : {part : Part} (state home : CxxState) (ahead rest : Ahead) (go : Unit {0} → Reads CxxState Specifiers) → IsElsewhere state home → EndsIn ahead.tokens rest.tokens → Tells IsLater Quietly (go tt) → {r : Answer (Unit {0} × CxxState)} → ToldBy IsLater Quietly home ahead r
+    → Inside part state ahead (then_read (answered r rest) (λ ended. ask (stand_in state.here.scope) >>= go))
+class_left state home ahead rest go elsewhere stands tells (tells_answer one later) =
+    let outer = at_scope state.here.scope one.1 in
+    calm_from (returns_later state one.1 (elsewhere_later state home one.1 elsewhere later)) stands (tells outer rest)
+class_left {part = part} state home ahead rest go elsewhere stands tells (tells_refusal why quiet) = tells_stop why (quiet_told within_part part state ahead why quiet)
+
+class_ends : (room : ℕ) (so_far : Specifiers) (head : Head) (number : ℕ) (state home opened : CxxState) (ahead rest : Ahead) → IsElsewhere state home → InSpace home opened → EndsIn ahead.tokens rest.tokens → {r : Answer (Got CxxState (List CxxTree))} → InsideClass room so_far state ahead opened rest r
+    → Inside (a_class room so_far) state ahead (then_read r (behind_members state.here.scope so_far head number ahead))
+class_ends room so_far head number state home opened ahead rest elsewhere is stands (read_inside one later ends) =
+    class_left state home ahead one.rest (λ outer. behind_end so_far head number ahead one.value) elsewhere (ends_later ahead.tokens rest.tokens one.rest.tokens stands ends) (behind_end_tells so_far head number ahead one.value) (end_tells home opened one.state ahead number head.place is later)
+class_ends room so_far head number state home opened ahead rest elsewhere is stands (stopped_inside why told) = tells_stop why told
 
 -- behind the bases
-abbrev behind_bases_of : ℕ → Specifiers → Head → ℕ → Ahead → List CxxTree → Reads CxxState Specifiers
-behind_bases_of room so_far head number from bases = taken >>= λ opened. list_at room head bases >>= behind_members so_far head number from
+abbrev behind_bases_of : ℕ → ℕ → Specifiers → Head → ℕ → Ahead → List CxxTree → Reads CxxState Specifiers
+behind_bases_of outside room so_far head number from bases = taken >>= λ opened. list_at room head bases >>= behind_members outside so_far head number from
 
-based_stops : (room : ℕ) → MembersStop room → (so_far : Specifiers) (head : Head) (state : CxxState) (ahead colon : Ahead) (begun : ℕ × CxxState) → Gives head_at state ahead head state colon → class_begins head state ≡ Ok begun → {r : Answer (Got CxxState (List CxxTree))} → InsideBy InSpace (a_class room so_far) state ahead r
-    → ((one : Got CxxState (List CxxTree)) → r ≡ Ok one → bases_or_none state.here.scope begun.0 head.access begun.1 colon ≡ Ok one) → Inside (a_class room so_far) state ahead (then_read r (behind_bases_of room so_far head begun.0 ahead))
-based_stops room inside so_far head state ahead colon begun gives begins (tells_read one is stands) reads =
-    class_ends room so_far head begun.0 state one.state ahead (behind one.rest) is (past_stands ahead one.rest stands)
-    (inside so_far head one.value state one.state ahead (behind one.rest) (begins_class colon one.rest begun one.state gives begins (reads one refl)) is (past_stands ahead one.rest stands))
-based_stops room inside so_far head state ahead colon begun gives begins (tells_stop why told) reads = tells_stop why told
+based_stops : (room : ℕ) → MembersStop room → (so_far : Specifiers) (head : Head) (state home : CxxState) (ahead colon : Ahead) (begun : ℕ × CxxState) → Gives head_at state ahead head home colon → class_begins head home ≡ Ok begun → IsElsewhere state home → {r : Answer (Got CxxState (List CxxTree))} → InsideBy (InHome home) (a_class room so_far) state ahead r
+    → ((one : Got CxxState (List CxxTree)) → r ≡ Ok one → bases_or_none home.here.scope begun.0 head.access begun.1 colon ≡ Ok one) → Inside (a_class room so_far) state ahead (then_read r (behind_bases_of state.here.scope room so_far head begun.0 ahead))
+based_stops room inside so_far head state home ahead colon begun gives begins elsewhere (tells_read one is stands) reads =
+    class_ends room so_far head begun.0 state home one.state ahead (behind one.rest) elsewhere is (past_stands ahead one.rest stands)
+    (inside so_far head one.value state one.state ahead (behind one.rest) (begins_class colon one.rest home begun one.state gives begins (reads one refl)) (behind_later state home one.state (elsewhere_is_held.behind state home elsewhere) (elsewhere_is_held.behind home one.state (in_space_elsewhere home one.state is))) (past_stands ahead one.rest stands))
+based_stops room inside so_far head state home ahead colon begun gives begins elsewhere (tells_stop why told) reads = tells_stop why told
 
-begun_stops : (room : ℕ) → MembersStop room → (so_far : Specifiers) (head : Head) (state : CxxState) (ahead colon : Ahead) → Gives head_at state ahead head state colon → EndsIn ahead.tokens colon.tokens → {r : Answer (ℕ × CxxState)} → ToldBy InSpace Quietly state colon r → ((begun : ℕ × CxxState) → r ≡ Ok begun → class_begins head state ≡ Ok begun)
-    → Inside (a_class room so_far) state ahead (then_read (answered r colon) (λ number. bases_or_none state.here.scope number head.access >>= behind_bases_of room so_far head number ahead))
-begun_stops room inside so_far head state ahead colon gives stands (tells_answer one is) begins =
-    based_stops room inside so_far head state ahead colon one gives (begins one refl) (bases_or_none_stop room so_far head state one ahead colon gives (begins one refl) is stands) (λ bases reads. reads)
-begun_stops room inside so_far head state ahead colon gives stands (tells_refusal why quiet) begins = tells_stop why (quiet_told within_part (a_class room so_far) state ahead why quiet)
-
--- behind a name, where there is one
-name_stands : (from ahead : Ahead) → EndsIn from.tokens ahead.tokens → EndsIn from.tokens (behind_name ahead).tokens
-name_stands from ahead stands = by (is_name (kind_ahead ahead))
-  where
-    by : (b : Bool) → EndsIn from.tokens (if b then behind ahead else ahead).tokens
-    by true = past_stands from ahead stands
-    by false = stands
+begun_stops : (room : ℕ) → MembersStop room → (so_far : Specifiers) (head : Head) (state home : CxxState) (ahead colon : Ahead) → Gives head_at state ahead head home colon → IsElsewhere state home → EndsIn ahead.tokens colon.tokens → {r : Answer (ℕ × CxxState)} → ToldBy InSpace Quietly home colon r → ((begun : ℕ × CxxState) → r ≡ Ok begun → class_begins head home ≡ Ok begun)
+    → Inside (a_class room so_far) state ahead (then_read (answered r colon) (λ number. bases_or_none home.here.scope number head.access >>= behind_bases_of state.here.scope room so_far head number ahead))
+begun_stops room inside so_far head state home ahead colon gives elsewhere stands (tells_answer one is) begins =
+    based_stops room inside so_far head state home ahead colon one gives (begins one refl) elsewhere (bases_or_none_stop room so_far head state home one ahead colon gives (begins one refl) elsewhere is stands) (λ bases reads. reads)
+begun_stops room inside so_far head state home ahead colon gives elsewhere stands (tells_refusal why quiet) begins = tells_stop why (quiet_told within_part (a_class room so_far) state ahead why quiet)
 
 begins_tells : (is_union : Bool) (place : Place) (name : Option Lexeme) (state : CxxState) (ahead : Ahead) → ToldBy InSpace Quietly state ahead (begins_by is_union place name state)
 begins_tells is_union place (Some name) state ahead = begin_tells is_union name state ahead
 begins_tells is_union place None state ahead = unnamed_tells is_union place state ahead
 
+-- behind its head
+abbrev behind_head : ℕ → ℕ → Specifiers → Ahead → Head → Reads CxxState Specifiers
+behind_head outside room so_far from head = standing >>= λ home. ask (class_begins head) >>= λ number. bases_or_none home number head.access >>= behind_bases_of outside room so_far head number from
+
+headed_stops : (room : ℕ) → MembersStop room → (so_far : Specifiers) (state : CxxState) (ahead : Ahead) {r : Answer (Got CxxState Head)} → InsideBy IsElsewhere (a_class room so_far) state ahead r → ((one : Got CxxState Head) → r ≡ Ok one → head_at state ahead ≡ Ok one)
+    → Inside (a_class room so_far) state ahead (then_read r (behind_head state.here.scope room so_far ahead))
+headed_stops room inside so_far state ahead (tells_read one elsewhere stands) reads =
+    let head = one.value in
+    begun_stops room inside so_far head state one.state ahead one.rest (reads one refl) elsewhere stands (begins_tells head.is_union head.place head.name one.state one.rest) (λ begun is. is)
+headed_stops room inside so_far state ahead (tells_stop why told) reads = tells_stop why told
+
 class_stops_by : (room : ℕ) → MembersStop room → ClassStops room
-unfolding class_at class_by head_at
-class_stops_by room inside so_far state ahead = whole_stops (λ fault is. is) (
-    unless_stops (begins_name (behind ahead) && not (is_plain_name (behind ahead))) (place_ahead ahead) says.NotBuilt refl _ state ahead
-    (begun_stops room inside so_far head state ahead (behind_name (behind ahead)) refl (name_stands ahead (behind ahead) (behind_stands ahead)) (begins_tells head.is_union head.place head.name state (behind_name (behind ahead))) (λ begun is. is)))
-  where
-    head : Head
-    head = record { is_union = is_keyword keyword.UNION (kind_ahead ahead); access = key_access (kind_ahead ahead); name = name_ahead (behind ahead); place = place_or (place_ahead ahead) (name_ahead (behind ahead)) }
+unfolding class_at class_by
+class_stops_by room inside so_far state ahead = whole_stops (λ fault is. is) (headed_stops room inside so_far state ahead (head_stops room so_far state ahead) (λ one is. is))
 
 pub class_stops : (room : ℕ) → ClassStops room
 class_stops zero = class_stops_by zero inside_none

@@ -1,8 +1,7 @@
 -- Where the reading of a declaration stops.
 use Rattle.std.proofs.Common.{arith, ◌≡◌, ◌<◌, refl, sym, subst}
-use Rattle.std.specs.Prelude.{ℕ, zero, suc, Bool, true, false, if◌then◌else◌, List, [], ◌∷◌, ◌++◌, Option, Some, None, length, Ok, Err}
+use Rattle.std.specs.Prelude.{ℕ, zero, suc, Bool, true, false, List, [], ◌∷◌, ◌++◌, Option, Some, None, Ok, Err}
 use Rattle.cxx_model.specs.declared.keyword.TheConstants as keyword
-use Rattle.cxx_model.specs.declared.place.Place.{Place}
 use Rattle.cxx_model.specs.declared.punct.TheConstants as punct
 use Rattle.cxx_model.specs.declared.stop.LimitKind.TheVariants.{Nesting}
 use Rattle.cxx_model.specs.Stops.{Answer, Stopped, Limited}
@@ -10,23 +9,19 @@ use Rattle.cxx_model.specs.Text.Lexemes.{Lexeme}
 use Rattle.cxx_model.specs.Types.Trees.{CxxType}
 use Rattle.cxx_reading.specs.declared.specifier.Naming.TheVariants as naming
 use Rattle.cxx_reading.specs.Declarators.{Declarator, declared_type, Specifiers, is_function_type, own_parameters}
-use Rattle.cxx_reading.specs.Declaring.{at_scope, begin_body, declare_object, define_object, define_declared, end_body, number_id, scope_count}
-use Rattle.cxx_reading.specs.Reads.{Ahead, Asks, Got, Reads, More, Done, ◌>>=◌, then_read, answered, ask, fault_at, taken, give, count_ahead, kind_ahead, place_ahead, behind}
+use Rattle.cxx_reading.specs.Declaring.{at_scope, declare_object, define_object, scope_count}
+use Rattle.cxx_reading.specs.Reads.{Ahead, Asks, Got, Reads, More, Done, ◌>>=◌, then_read, answered, ask, taken, give, count_ahead, kind_ahead, place_ahead, behind}
 use Rattle.cxx_declare.specs.Outside.{stand_in}
 use Rattle.cxx_reading.specs.Productions as unit_production
 use Rattle.cxx_reading.specs.Spaces.{close_space, open_space, open_unnamed}
 use Rattle.cxx_reading.specs.State.{CxxState}
 use Rattle.cxx_reading.specs.Tokens.{is_keyword, is_name, is_punct, token_in}
-use Rattle.cxx_reading.specs.Labels.{label_from}
-use Rattle.cxx_reading.specs.Trees.{CxxTree, tree_of}
-use Rattle.cxx_reading.specs.Units.{specifiers_tree, declarator_tree, name_in as name_of_declarator, declared_fits, ends_declarator, is_incomplete, give_trees, no_declarators, said_by, empty_tree, another_ahead, linkages_passed, linkage_list, inside_step, Said, Listed}
-use Rattle.cxx_statements.specs.Statements.{body_at}
-use Rattle.cxx_language.specs.Bodies.{complete_head, function_body, incomplete_among, result_of, whole_by, statements_within}
+use Rattle.cxx_reading.specs.Trees.{CxxTree}
+use Rattle.cxx_reading.specs.Units.{specifiers_tree, declarator_tree, name_in as name_of_declarator, declared_fits, ends_declarator, give_trees, no_declarators, said_by, empty_tree, another_ahead, linkages_passed, linkage_list, inside_step, Said, Listed}
 use Rattle.cxx_language.specs.Made.{defined_object, extern_object}
 use Rattle.cxx_language.specs.Objects.{begins_initializer}
 use Rattle.cxx_language.specs.Spaces.{behind_namespace, give_part, namespace_at, part_tree, space_opened, space_or_alias}
-use Rattle.cxx_language.specs.Statements.{parts_at}
-use Rattle.cxx_language.specs.Later.{Declares, alone, ended_behind, ended_by}
+use Rattle.cxx_language.specs.Later.{Declares}
 use Rattle.cxx_language.specs.Units.{behind_list, declaration_at, declaration_by, declaration_tree, declarator_step, declarators_at, declarators_of, declared_by, declared_function, function_declared, function_ended, init_declarator_at, linkage_by, member_agrees, linkage_opened, linked_by, linked_one, not_ended, plain_declaration_at, simple_declaration_at}
 use Rattle.cxx_language_laws.specs.Stopping.{BeginsBody, Gives, Initializes, IsLinked, IsNoSpace, Leads, OpensSpace, Part, a_body, a_declaration, a_namespace, a_simple_declaration, alias_name, an_initializer, begins_body, by_definition, by_extern, declarator_of, in_alias, in_declaration, in_declarator, in_space, next_declaration, opens_named, opens_unnamed, some_declarations, to_using, to_linked_using, to_linked_namespace, to_namespace, next_declarator, some_declarators, to_body, to_braces, to_declarators, to_initializer, to_linked, to_unlinked}
 use Rattle.cxx_language_laws.specs.Told.{EndsIn}
@@ -35,16 +30,13 @@ use Rattle.cxx_language_laws.proofs.BodiesStop.{LeadsToBody, function_body_stops
 use Rattle.cxx_language_laws.proofs.LaterBodies.{all_specifiers_stop}
 use Rattle.cxx_language_laws.proofs.Declared.{alone_tells, bare_synonym_tells, ended_by_tells, function_declared_tells, give_trees_tells, linkages_tell, linked_tree_tells, no_declaration_tells, nothing_tells, one_tree_tells}
 use Rattle.cxx_language_laws.proofs.DeclaratorsStop.{agrees_stops, defined_part_stops, extern_part_stops, fits_stops, member_stops, which_reads}
-use Rattle.cxx_language_laws.proofs.Later.{IsLater, declared_is_there, defined_is_there, define_later_tells, define_tells, grown_later, grown_same, later_is_kept, same_calls, later_is_quiet, object_tells}
+use Rattle.cxx_language_laws.proofs.Later.{IsLater, declared_is_there, defined_is_there, define_tells, later_is_quiet, object_tells}
 use Rattle.cxx_language_laws.proofs.Opened.{InSpace, open_space_tells, open_unnamed_tells, space_closed}
-use Rattle.cxx_language_laws.proofs.Reached.{IsElsewhere, behind_by, behind_by_later, behind_later, count_more}
-use Rattle.cxx_language_laws.proofs.Scopes.{scope_is_there, scopes_at}
+use Rattle.cxx_language_laws.proofs.Reached.{IsElsewhere, count_more, returns_later}
 use Rattle.cxx_language_laws.proofs.Lists.{left}
 use Rattle.cxx_language_laws.proofs.Spaces.{alias_or_not_stops, using_stops}
-use Rattle.cxx_language_laws.proofs.StatementsStop.{body_stops}
 use Rattle.cxx_language_laws.proofs.Stopping.{ChainedOf, Inside, InsideBy, IsHeld, Stops, asked_held, calm, calm_from, calm_held, elsewhere_is_held, leads_elsewhere, leads_here, leads_in, quiet_held, quiet_told, repeat_stops, then_calm, then_held, told_within, which_in, whole_calm, whole_stops, within_part}
 use Rattle.cxx_language_laws.proofs.Tells.{Quietly, Tells, ToldBy, tells_answer, tells_read, tells_refusal, tells_stop, behind_stands, twice_behind, ends_later, then_from, then_in, if_in, same_in, next_in, give_in, looked_in, past_stands, quiet_in}
-use Rattle.cxx_language_laws.proofs.TellsBodies.{IsInBlock, begun_body, body_later, body_reached, ended_body, enter_tells, in_list}
 
 -- ---- bodies (8.4)
 
@@ -135,14 +127,6 @@ is_begun one (brings_none why) e = absurd cc
 -- behind it the reader stands where it stood before
 abbrev back : CxxState → Declares → Reads CxxState Declares
 back state one = ask (stand_in state.here.scope) >>= λ left. give one
-
-returns_later : (state t : CxxState) → IsElsewhere state t → IsLater state (at_scope state.here.scope t)
-returns_later state t is = record {
-  grown = grown_later state t (at_scope state.here.scope t) is.grown (grown_same t (at_scope state.here.scope t) refl);
-  scopes = λ scopes. let there = scope_is_there state scopes in let more = count_more state t is.grown in scopes_at state.here.scope t (omega (arith, there, more)) (is.scopes scopes);
-  best = λ all. same_calls t (at_scope state.here.scope t) (grown_same t (at_scope state.here.scope t) refl) refl (is.best all);
-  here = λ scopes. refl;
-}
 
 returns_stops : {part : Part} (state : CxxState) (ahead : Ahead) {r : Answer (Got CxxState Declares)} → InsideBy IsElsewhere part state ahead r → Inside part state ahead (then_read r (back state))
 returns_stops state ahead (tells_read one elsewhere stands) = tells_read (record { value = one.value; state = at_scope state.here.scope one.state; rest = one.rest }) (returns_later state one.state elsewhere) stands

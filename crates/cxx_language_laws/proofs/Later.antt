@@ -1,11 +1,9 @@
 -- What stops a question about declarations says nothing of them, and each answer keeps them, and the calls so far.
 use Rattle.std.proofs.Common.{arith, ◌≡◌, ℕ, suc, ◌+◌, ◌<◌, ◌≤◌, Bool, true, false, List, [], ◌∷◌, ◌++◌, length, Option, Some, None, Ok, Err, refl, sym, ap, subst, ◌∙◌}
-use Rattle.std.specs.Prelude.{if◌then◌else◌, ℤ, ◌&&◌, nat_eq, nat_lt}
+use Rattle.std.specs.Prelude.{if◌then◌else◌, ℤ, nat_eq, nat_lt}
 use Rattle.std.specs.List.{AllByRecursion, slice_get}
 use Rattle.std.proofs.lemmas.List.{append-nil, append_assoc, length-append}
 use Rattle.std.proofs.lemmas.Option.{same_Some, slice_get_within}
-use Rattle.cxx_model.specs.declared.lookup.Found.{Found}
-use Rattle.cxx_model.specs.declared.lookup.Found.TheVariants as looked
 use Rattle.cxx_model.specs.declared.place.Place.{Place}
 use Rattle.cxx_model.specs.declared.stop.LimitKind.TheVariants.{Facts}
 use Rattle.cxx_model.specs.declared.types.ClassId.{ClassId}
@@ -19,12 +17,11 @@ use Rattle.cxx_model.specs.Text.Lexemes.{Lexeme}
 use Rattle.cxx_model.specs.Types.Integral.{one_holds}
 use Rattle.cxx_model.specs.Types.Trees.{CxxType}
 use Rattle.cxx_meaning.specs.Conversions.Enumerations.{values_in}
-use Rattle.cxx_meaning.specs.Lookups.Wanted.{any_name}
 use Rattle.cxx_reading.specs.Declaring.{class_of_here, free_in_class, free_object, with_fact, added, free, free_by, free_linked, declare, declare_linked_object, declare_synonym, declared_here, first_function, first_member_function, first_member_object, first_object, first_object_here, home_here, is_object, is_same_function, linked_as, linked_object_here, name_of, number_id, parameter_object, with_linked, word_of, declare_object, define_object, define_declared, undefined, undefined_by, defined_as, with_definition, declare_parameter, declare_enumeration, begun_as, declare_enumerator, declare_value, held, end_enumeration, kind_here, type_here, most_facts, fact_here, object_here, enumeration_count}
 use Rattle.cxx_reading.specs.Linked.{is_linked_as, is_space_at, linked_among, linked_in, sooner_fact}
-use Rattle.cxx_reading.specs.Paths.{sought_in, space_in}
+use Rattle.cxx_reading.specs.Paths.{space_in}
 use Rattle.cxx_reading.specs.Reads.{Ahead, Asks}
-use Rattle.cxx_reading.specs.Seen.{Numbered, declared_from, declared_in, declares_in, fact_numbers, members_of, numbered_at, numbered_by, set_in}
+use Rattle.cxx_reading.specs.Seen.{Numbered, declared_from, declared_in, declares_in, numbered_at, numbered_by}
 use Rattle.cxx_reading.specs.State.{CxxState, CxxCall, CxxGiven, CxxOffered}
 use Rattle.cxx_reading.specs.Trees.{CxxPath}
 use Rattle.cxx_reading.proofs.Keeps.{IsKept}

@@ -14,6 +14,8 @@ pub mod TellsConversions
 pub mod TellsOperators
 pub mod TellsNames
 pub mod TellsMembers
+pub mod TellsMeans
+pub mod TellsSteps
 pub mod TellsExpressions
 pub mod TellsHeads
 pub mod TellsStatements
@@ -24,6 +26,7 @@ pub mod Sought
 pub mod Later
 pub mod Reached
 pub mod Regions
+pub mod Behind
 pub mod Lists
 pub mod CallsTell
 pub mod TellsValues
@@ -37,6 +40,7 @@ pub mod Members
 pub mod Declared
 pub mod Objects
 pub mod Spaces
+pub mod Brought
 pub mod Opened
 pub mod TellsBlocks
 pub mod TellsBodies
@@ -45,10 +49,12 @@ pub mod DeclaratorsStop
 pub mod StatementsStop
 pub mod Bases
 pub mod ClassBegins
+mod ClassNames
 pub mod ClassStops
 pub mod BodiesStop
 pub mod LaterDefaults
 pub mod LaterBodies
 pub mod Declarations
 pub mod Whole
+mod Plain
 mod Rows

@@ -46,11 +46,11 @@ use Rattle.cxx_language_laws.proofs.TellsSyntax.{cv_tells, no_declarator_tells, 
 -- ---- the name
 
 -- what is answered where it is entered
-data EntersBy (state : CxxState) (ahead : Ahead) : Answer (Unit {0} × CxxState) → Type 0 where
+pub data EntersBy (state : CxxState) (ahead : Ahead) : Answer (Unit {0} × CxxState) → Type 0 where
   enters_answer : (one : Unit {0} × CxxState) → IsPlaced state ahead one.1 → EntersBy state ahead (Ok one)
   enters_refusal : (why : Stopped) → Told state ahead why → EntersBy state ahead (Err why)
 
-member_placed : (state : CxxState) (ahead : Ahead) (space : ScopeId) → begins_name ahead ≡ true → region_of state.graph state.here.scope (path_ahead ahead) ≡ Ok (region.Inside space) → IsPlaced state ahead (at_scope space.0 state)
+pub member_placed : (state : CxxState) (ahead : Ahead) (space : ScopeId) → begins_name ahead ≡ true → region_of state.graph state.here.scope (path_ahead ahead) ≡ Ok (region.Inside space) → IsPlaced state ahead (at_scope space.0 state)
 member_placed state ahead space begins means = record {
   elsewhere = record {
     grown = grown_same state (at_scope space.0 state) refl;
@@ -87,7 +87,7 @@ class_within : (graph : CxxGraph) (class : ClassId) → 0 < scope_count graph �
 unfolding scope_of_class
 class_within graph class some = or_there (scope_count graph) (first_scope class zero (scope_kinds graph.facts)) some (λ s e. let there = first_there class zero (scope_kinds graph.facts) s e in omega (arith, there))
 
-class_placed : (state : CxxState) (ahead : Ahead) (class : ClassId) → begins_name ahead ≡ true → region_of state.graph state.here.scope (path_ahead ahead) ≡ Ok (region.Class class) → IsPlaced state ahead (at_scope (scope_of_class state.graph class) state)
+pub class_placed : (state : CxxState) (ahead : Ahead) (class : ClassId) → begins_name ahead ≡ true → region_of state.graph state.here.scope (path_ahead ahead) ≡ Ok (region.Class class) → IsPlaced state ahead (at_scope (scope_of_class state.graph class) state)
 class_placed state ahead class begins means = record {
   elsewhere = record {
     grown = grown_same state (at_scope (scope_of_class state.graph class) state) refl;
@@ -170,7 +170,7 @@ if_enters false x y = y
 
 -- ---- declarators
 
-abbrev EachEnters : {A : Type 0} → Reads CxxState A → Type 0
+abbrev pub EachEnters : {A : Type 0} → Reads CxxState A → Type 0
 EachEnters read = (state : CxxState) (ahead : Ahead) → EntersIn state ahead (read state ahead)
 
 record ReadersEnter (inner : Readers CxxState) : Type 0 where

@@ -4,15 +4,15 @@ use Rattle.std.specs.Prelude.{ℕ, List, []}
 use Rattle.cxx_model.specs.Facts.Declarations as facts
 use Rattle.cxx_model.specs.Facts.Declarations.{CxxFact, Declares}
 use Rattle.cxx_model.specs.Facts.Entities.{scope_kinds}
-use Rattle.cxx_reading.specs.Declaring.{scope_count}
+use Rattle.cxx_reading.specs.Declaring.{at_scope, scope_count}
 use Rattle.cxx_model.specs.declared.stop.Fault.{Fault}
 use Rattle.cxx_model.specs.Stops.{Stopped, Faulty, Limited}
 use Rattle.cxx_reading.specs.Reads.{Ahead}
 use Rattle.cxx_reading.specs.State.{CxxState}
 use Rattle.cxx_language_laws.specs.Best.{AreBestCalls}
 use Rattle.cxx_language_laws.specs.Told.{EndsIn, IsChoiceFault, IsGrown, IsInside, IsNowhere, IsScopeSince, IsTwofold, IsUnknown}
-use Rattle.cxx_language_laws.proofs.Later.{IsLater, grown_later, later_is_kept}
-use Rattle.cxx_language_laws.proofs.Scopes.{InScopes}
+use Rattle.cxx_language_laws.proofs.Later.{IsLater, grown_later, grown_same, later_is_kept, same_calls}
+use Rattle.cxx_language_laws.proofs.Scopes.{InScopes, scope_is_there, scopes_at}
 use Rattle.cxx_language_laws.proofs.Tells.{Saying, choosing, undeclared, ambiguous, nothing, saying, IsQuiet, IsTold, whole_stands, ends_later}
 
 -- a state that comes behind another keeps what is declared, and how its scopes stand
@@ -145,6 +145,15 @@ elsewhere_by_later old new later = record { grown = later.grown; scopes = later.
 
 pub elsewhere_later : (s t u : CxxState) → IsElsewhere s t → IsLater t u → IsElsewhere s u
 elsewhere_later s t u one two = record { grown = grown_later s t u one.grown two.grown; scopes = λ is. two.scopes (one.scopes is); best = λ is. two.best (one.best is) }
+
+-- it comes to stand again where it did
+pub returns_later : (state t : CxxState) → IsElsewhere state t → IsLater state (at_scope state.here.scope t)
+returns_later state t is = record {
+  grown = grown_later state t (at_scope state.here.scope t) is.grown (grown_same t (at_scope state.here.scope t) refl);
+  scopes = λ scopes. let there = scope_is_there state scopes in let more = count_more state t is.grown in scopes_at state.here.scope t (omega (arith, there, more)) (is.scopes scopes);
+  best = λ all. same_calls t (at_scope state.here.scope t) (grown_same t (at_scope state.here.scope t) refl) refl (is.best all);
+  here = λ scopes. refl;
+}
 
 -- It stands where it did, or in the namespace or the class that the qualifiers of a name ahead mean.
 abbrev pub IsPlace : CxxState → Ahead → CxxState → Type 0

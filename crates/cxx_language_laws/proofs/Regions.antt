@@ -30,7 +30,7 @@ use Rattle.cxx_reading.specs.State.{CxxState}
 use Rattle.cxx_reading.specs.Tokens.{Passed, begins_name, is_name, is_plain_name, is_punct, is_whole_name, part_of, part_then, passed_from, passed_to, path_ahead}
 use Rattle.cxx_reading.specs.Trees.{CxxPath, CxxPathPart, last_part}
 use Rattle.cxx_language_laws.specs.Best.{IsClear}
-use Rattle.cxx_language_laws.specs.Told.{AreTwo, IsNamed, IsNotThere, IsSought, IsWantedLast, MayStandBefore, nothing_in, twofold_inherited, twofold_name, unknown_name}
+use Rattle.cxx_language_laws.specs.Told.{AreTwo, IsNamed, IsNotThere, IsSought, IsSoughtFrom, IsWantedLast, MayStandBefore, nothing_in, twofold_inherited, twofold_name, unknown_name}
 use Rattle.cxx_language_laws.proofs.Later.{IsLater}
 use Rattle.cxx_language_laws.proofs.Outward.{IsSome}
 use Rattle.cxx_language_laws.proofs.Reached.{IsManifold, IsUndeclared, Told, quiet_told, reached_here}
@@ -67,12 +67,12 @@ some_parts ahead begins whole = by ahead.last ahead.tokens begins whole
             further true is whole = behind_colons true token.place tokens refl whole
             further false is whole = absurd cc
 
-abbrev AreTwoParts : List CxxPathPart → Type 0
+abbrev pub AreTwoParts : List CxxPathPart → Type 0
 AreTwoParts [] = ⊥
 AreTwoParts (part ∷ []) = ⊥
 AreTwoParts (part ∷ next ∷ others) = Unit {0}
 
-part_and : (part : CxxPathPart) (parts : List CxxPathPart) → IsSome parts → AreTwoParts (part ∷ parts)
+pub part_and : (part : CxxPathPart) (parts : List CxxPathPart) → IsSome parts → AreTwoParts (part ∷ parts)
 part_and part [] is = absurd is
 part_and part (next ∷ others) is = tt
 
@@ -157,31 +157,31 @@ clear_or graph part (sought.Member class member_found.Empty) = is_clear tt
 
 -- ---- what a part before `::` means
 
-abbrev AreRegions : Answer Region → Answer Region → Type 0
+abbrev pub AreRegions : Answer Region → Answer Region → Type 0
 AreRegions one two = one ≡ two
 
-same_region : (one two : Region) → AreRegions (Ok one) (Ok two) → one ≡ two
+pub same_region : (one two : Region) → AreRegions (Ok one) (Ok two) → one ≡ two
 same_region one two e = cc
 
-same_reason : (one two : Stopped) → AreRegions (Err one) (Err two) → one ≡ two
+pub same_reason : (one two : Stopped) → AreRegions (Err one) (Err two) → one ≡ two
 same_reason one two e = cc
 
 -- why it means no namespace and no class that may stand there
-data HolderStops (graph : CxxGraph) (wants : Wanted) (where_ : Region) (part : CxxPathPart) : Stopped → Type 0 where
+pub data HolderStops (graph : CxxGraph) (wants : Wanted) (where_ : Region) (part : CxxPathPart) : Stopped → Type 0 where
   holds_two : (x : Found) (why : Stopped) → sought_in graph wants where_ (spelled part.word) ≡ x → IsTwain graph part x why → HolderStops graph wants where_ part why
   holds_none : (x : Found) → sought_in graph wants where_ (spelled part.word) ≡ x → IsClear x → set_in graph x ≡ [] → HolderStops graph wants where_ part (undeclared_at part.place part.word)
   holds_other : (why : Stopped) → IsQuiet why → HolderStops graph wants where_ part why
 
+pub held_in_class_stops : (graph : CxxGraph) (wants : Wanted) (where_ : Region) (part : CxxPathPart) (why : Stopped) (x : Found) → sought_in graph wants where_ (spelled part.word) ≡ x → IsClear x → (o : Option ℕ) (all : List Numbered) → set_in graph x ≡ all → AreRegions (held_in_class part all o) (Err why) → HolderStops graph wants where_ part why
+held_in_class_stops graph wants where_ part why x is clear (Some class) all are e = absurd cc
+held_in_class_stops graph wants where_ part why x is clear None [] are e = subst (HolderStops graph wants where_ part) (same_reason _ why e) (holds_none x is clear are)
+held_in_class_stops graph wants where_ part why x is clear None (one ∷ others) are e = subst (HolderStops graph wants where_ part) (same_reason _ why e) (holds_other _ refl)
+
 held_stops : (graph : CxxGraph) (wants : Wanted) (classes : Bool) (where_ : Region) (part : CxxPathPart) (why : Stopped) (x : Found) → sought_in graph wants where_ (spelled part.word) ≡ x → IsClear x → (o : Option ℕ) → AreRegions (held_by part classes o (set_in graph x)) (Err why) → HolderStops graph wants where_ part why
 held_stops graph wants classes where_ part why x is clear (Some inner) e = absurd cc
-held_stops graph wants classes where_ part why x is clear None e = in_class (class_if classes (first_meant (set_in graph x))) (set_in graph x) refl e
-  where
-    in_class : (o : Option ℕ) (all : List Numbered) → set_in graph x ≡ all → AreRegions (held_in_class part all o) (Err why) → HolderStops graph wants where_ part why
-    in_class (Some class) all are e = absurd cc
-    in_class None [] are e = subst (HolderStops graph wants where_ part) (same_reason _ why e) (holds_none x is clear are)
-    in_class None (one ∷ others) are e = subst (HolderStops graph wants where_ part) (same_reason _ why e) (holds_other _ refl)
+held_stops graph wants classes where_ part why x is clear None e = held_in_class_stops graph wants where_ part why x is clear (class_if classes (first_meant (set_in graph x))) (set_in graph x) refl e
 
-holder_stops : (graph : CxxGraph) (wants : Wanted) (classes : Bool) (where_ : Region) (part : CxxPathPart) (why : Stopped) → holder graph wants classes where_ part ≡ Err why → HolderStops graph wants where_ part why
+pub holder_stops : (graph : CxxGraph) (wants : Wanted) (classes : Bool) (where_ : Region) (part : CxxPathPart) (why : Stopped) → holder graph wants classes where_ part ≡ Err why → HolderStops graph wants where_ part why
 unfolding holder
 holder_stops graph wants classes where_ part why e = by (sought_in graph wants where_ (spelled part.word)) refl e
   where
@@ -193,7 +193,7 @@ holder_stops graph wants classes where_ part why e = by (sought_in graph wants w
     by x is e = clear x is (clear_or graph part x) e
 
 -- what it means: a namespace, or a class where one may stand there
-data IsHolder (graph : CxxGraph) (classes : Bool) : Region → Type 0 where
+pub data IsHolder (graph : CxxGraph) (classes : Bool) : Region → Type 0 where
   holds_space : (inner : ℕ) → IsSpaceOf graph inner → IsHolder graph classes (region.Inside (scope_id inner))
   holds_class : (class : ClassId) → classes ≡ true → IsHolder graph classes (region.Class class)
 
@@ -220,20 +220,20 @@ holder_is graph wants classes where_ part inner e = by (sought_in graph wants wh
 -- ---- regions by parts
 
 -- a part of a name before `::`, and the others round it
-record SplitAt (graph : CxxGraph) (wants : Wanted) (classes : Bool) (first : Region) (parts : List CxxPathPart) : Type 0 where
-  before : List CxxPathPart
-  part : CxxPathPart
-  next : CxxPathPart
-  others : List CxxPathPart
-  are : parts ≡ before ++ part ∷ next ∷ others
-  where_ : Region
-  qualifies : region_by graph wants classes first (before ++ part ∷ []) ≡ Ok where_
+pub record SplitAt (graph : CxxGraph) (wants : Wanted) (classes : Bool) (first : Region) (parts : List CxxPathPart) : Type 0 where
+  pub before : List CxxPathPart
+  pub part : CxxPathPart
+  pub next : CxxPathPart
+  pub others : List CxxPathPart
+  pub are : parts ≡ before ++ part ∷ next ∷ others
+  pub where_ : Region
+  pub qualifies : region_by graph wants classes first (before ++ part ∷ []) ≡ Ok where_
 
 -- and it means nothing that may stand there
-abbrev FailsAt : CxxGraph → Wanted → Bool → Region → List CxxPathPart → Stopped → Type 0
+abbrev pub FailsAt : CxxGraph → Wanted → Bool → Region → List CxxPathPart → Stopped → Type 0
 FailsAt graph wants classes first parts why = (split : SplitAt graph wants classes first parts) × (holder graph wants classes split.where_ split.part ≡ Err why)
 
-some_last : (before : List CxxPathPart) (part : CxxPathPart) → IsSome (before ++ part ∷ [])
+pub some_last : (before : List CxxPathPart) (part : CxxPathPart) → IsSome (before ++ part ∷ [])
 some_last [] part = tt
 some_last (one ∷ before) part = tt
 
@@ -243,7 +243,7 @@ region_step graph wants classes first part inner [] is e = absurd is
 region_step graph wants classes first part inner (next ∷ others) is e = ap (λ (o : Answer Region). o >>= λ inner. region_by graph wants classes inner (next ∷ others)) e
 
 -- where no region is found, a part before `::` means no namespace and no class
-region_fails : (graph : CxxGraph) (wants : Wanted) (classes : Bool) (first : Region) (parts : List CxxPathPart) (why : Stopped) → region_by graph wants classes first parts ≡ Err why → FailsAt graph wants classes first parts why
+pub region_fails : (graph : CxxGraph) (wants : Wanted) (classes : Bool) (first : Region) (parts : List CxxPathPart) (why : Stopped) → region_by graph wants classes first parts ≡ Err why → FailsAt graph wants classes first parts why
 unfolding region_by
 region_fails graph wants classes first [] why e = absurd cc
 region_fails graph wants classes first (part ∷ []) why e = absurd cc
@@ -266,7 +266,7 @@ region_fails graph wants classes first (part ∷ next ∷ others) why e = by (ho
     )
 
 -- whatever holds of the first region and of those that parts before `::` mean
-region_holds : (P : Region → Type 0) (graph : CxxGraph) (wants : Wanted) (classes : Bool) → ((inner : Region) → IsHolder graph classes inner → P inner) → (first where_ : Region) (parts : List CxxPathPart) → P first → region_by graph wants classes first parts ≡ Ok where_ → P where_
+pub region_holds : (P : Region → Type 0) (graph : CxxGraph) (wants : Wanted) (classes : Bool) → ((inner : Region) → IsHolder graph classes inner → P inner) → (first where_ : Region) (parts : List CxxPathPart) → P first → region_by graph wants classes first parts ≡ Ok where_ → P where_
 unfolding region_by
 region_holds P graph wants classes each first where_ [] is e = subst P (same_region first where_ e) is
 region_holds P graph wants classes each first where_ (part ∷ []) is e = subst P (same_region first where_ e) is
@@ -277,11 +277,11 @@ region_holds P graph wants classes each first where_ (part ∷ next ∷ others) 
     by (Err why) is e later = absurd cc
     by (Ok inner) is e later = later inner (holder_is graph wants classes first part inner is) e
 
-region_behind : (P : Region → Type 0) (graph : CxxGraph) (wants : Wanted) (classes : Bool) → ((inner : Region) → IsHolder graph classes inner → P inner) → (first where_ : Region) (parts : List CxxPathPart) → AreTwoParts parts → region_by graph wants classes first parts ≡ Ok where_ → P where_
+pub region_further : (P : Region → Type 0) (graph : CxxGraph) (wants : Wanted) (classes : Bool) → ((inner : Region) → IsHolder graph classes inner → P inner) → (first where_ : Region) (parts : List CxxPathPart) → AreTwoParts parts → region_by graph wants classes first parts ≡ Ok where_ → P where_
 unfolding region_by
-region_behind P graph wants classes each first where_ [] is e = absurd is
-region_behind P graph wants classes each first where_ (part ∷ []) is e = absurd is
-region_behind P graph wants classes each first where_ (part ∷ next ∷ others) is e = by (holder graph wants classes first part) refl e
+region_further P graph wants classes each first where_ [] is e = absurd is
+region_further P graph wants classes each first where_ (part ∷ []) is e = absurd is
+region_further P graph wants classes each first where_ (part ∷ next ∷ others) is e = by (holder graph wants classes first part) refl e
   where
     by : (o : Answer Region) → holder graph wants classes first part ≡ o → AreRegions (o >>= λ inner. region_by graph wants classes inner (next ∷ others)) (Ok where_) → P where_
     by (Err why) at e = absurd cc
@@ -291,7 +291,7 @@ first_there : (state : CxxState) (global : Bool) → InScopes state → IsRegion
 first_there state false is = is.within
 first_there state true is = tt
 
-holder_there : (graph : CxxGraph) (classes : Bool) (inner : Region) → IsHolder graph classes inner → IsRegion graph inner
+pub holder_there : (graph : CxxGraph) (classes : Bool) (inner : Region) → IsHolder graph classes inner → IsRegion graph inner
 holder_there graph classes _ (holds_space inner is) = tt
 holder_there graph classes _ (holds_class class may) = tt
 
@@ -324,7 +324,7 @@ region_qualified P graph classes of_unit each scope ahead where_ begins whole pl
       where
         apart : false ≡ true → ⊥
         apart e = cc
-    by false is (has_two are) e = region_behind P graph before_colons classes each (first_region scope false) where_ (path_ahead ahead).parts are e
+    by false is (has_two are) e = region_further P graph before_colons classes each (first_region scope false) where_ (path_ahead ahead).parts are e
 
 -- in a namespace or in a class
 abbrev pub IsQualifier : Region → Type 0
@@ -481,23 +481,41 @@ unambiguous_tells {A = A} wanted so state ahead begins whole where_ means x is n
     by (is_twain why two) = tells_refusal why (twofold_ahead wanted so state ahead begins whole where_ means x why two is)
 
 -- a part before `::`
-split_sought : (state : CxxState) (wants : Wanted) (classes : Bool) → MayStandBefore wants classes → (ahead : Ahead) (finds : Found) (fault : Fault) (split : SplitAt state.graph wants classes (first_region state.here.scope (path_ahead ahead).global) (path_ahead ahead).parts) → begins_name ahead ≡ true → is_whole_name ahead ≡ true → split.part.place ≡ fault.place → sought_in state.graph wants split.where_ (spelled split.part.word) ≡ finds
-    → IsNamed wants finds state ahead fault split.part.word
-split_sought state wants classes stands ahead finds fault split begins whole at is = record {
-  begins = begins;
-  whole = whole;
-  is_sought = record { before = split.before; part = split.part; others = split.next ∷ split.others; parts = split.are; wants = wants; classes = classes; may_stand = stands; is_wanted_so = refl; spelled_so = refl; is_at = at; where_ = split.where_; qualifies = split.qualifies; finds_so = is };
+unfoldable pub split_sought : (graph : CxxGraph) (wants : Wanted) (classes : Bool) → MayStandBefore wants classes → (first : Region) (path : CxxPath) (finds : Found) (fault : Fault) (split : SplitAt graph wants classes first path.parts) → split.part.place ≡ fault.place → sought_in graph wants split.where_ (spelled split.part.word) ≡ finds
+    → IsSoughtFrom graph first path wants finds fault split.part.word
+split_sought graph wants classes stands first path finds fault split at is = record {
+  before = split.before;
+  part = split.part;
+  others = split.next ∷ split.others;
+  parts = split.are;
+  wants = wants;
+  classes = classes;
+  may_stand = stands;
+  is_wanted_so = refl;
+  spelled_so = refl;
+  is_at = at;
+  where_ = split.where_;
+  qualifies = split.qualifies;
+  finds_so = is;
 }
 
-holder_told : (state : CxxState) (wants : Wanted) (classes : Bool) → MayStandBefore wants classes → (ahead : Ahead) (split : SplitAt state.graph wants classes (first_region state.here.scope (path_ahead ahead).global) (path_ahead ahead).parts) → begins_name ahead ≡ true → is_whole_name ahead ≡ true → (why : Stopped) → HolderStops state.graph wants split.where_ split.part why → Told state ahead why
-unfolding split_sought
+split_named : (state : CxxState) (wants : Wanted) (classes : Bool) → MayStandBefore wants classes → (ahead : Ahead) (finds : Found) (fault : Fault) (split : SplitAt state.graph wants classes (first_region state.here.scope (path_ahead ahead).global) (path_ahead ahead).parts) → begins_name ahead ≡ true → is_whole_name ahead ≡ true → split.part.place ≡ fault.place → sought_in state.graph wants split.where_ (spelled split.part.word) ≡ finds
+    → IsNamed wants finds state ahead fault split.part.word
+split_named state wants classes stands ahead finds fault split begins whole at is = record {
+  begins = begins;
+  whole = whole;
+  is_sought = split_sought state.graph wants classes stands (first_region state.here.scope (path_ahead ahead).global) (path_ahead ahead) finds fault split at is;
+}
+
+pub holder_told : (state : CxxState) (wants : Wanted) (classes : Bool) → MayStandBefore wants classes → (ahead : Ahead) (split : SplitAt state.graph wants classes (first_region state.here.scope (path_ahead ahead).global) (path_ahead ahead).parts) → begins_name ahead ≡ true → is_whole_name ahead ≡ true → (why : Stopped) → HolderStops state.graph wants split.where_ split.part why → Told state ahead why
+unfolding split_sought split_named
 holder_told state wants classes stands ahead split begins whole why (holds_two x _ is two) =
     manifold_told state ahead wants split.where_ split.part x why two is (λ scopes. part_there state wants classes (path_ahead ahead).global (split.before ++ split.part ∷ []) split.where_ scopes split.qualifies)
-    (λ fault at. split_sought state wants classes stands ahead x fault split begins whole (sym at) is)
+    (λ fault at. split_named state wants classes stands ahead x fault split begins whole (sym at) is)
 holder_told state wants classes stands ahead split begins whole _ (holds_none x is clear none) =
     reached_here state ahead (IsUndeclared (undeclared_fault split.part) split.part.word) (record {
       is = λ scopes. let found = nothing_sought state.graph wants split.where_ (spelled split.part.word) (fitting state scopes) (part_there state wants classes (path_ahead ahead).global (split.before ++ split.part ∷ []) split.where_ scopes split.qualifies) x is clear none in
-          (unknown_name wants (nothing_in split.where_) (split_sought state wants classes stands ahead (nothing_in split.where_) (undeclared_fault split.part) split begins whole refl found.0) refl, found.1);
+          (unknown_name wants (nothing_in split.where_) (split_named state wants classes stands ahead (nothing_in split.where_) (undeclared_fault split.part) split begins whole refl found.0) refl, found.1);
       bare = refl;
     })
 holder_told state wants classes stands ahead split begins whole why (holds_other _ quiet) = quiet_told state ahead why quiet

@@ -42,7 +42,7 @@ use Rattle.cxx_language_laws.proofs.Regions.{ClearOr, IsLastIn, IsOfSpace, IsSpa
 use Rattle.cxx_language_laws.proofs.Scopes.{InScopes, MayStand, may_stand, opened_within}
 use Rattle.cxx_language_laws.proofs.Sought.{IsThere, brought_there, no_member_inside, fitting, no_space_sought}
 use Rattle.cxx_language_laws.proofs.Stopping.{Inside, Stops, calm, innermost_stops, leads_in, later_here, which_in}
-use Rattle.cxx_language_laws.proofs.Tells.{Quietly, ToldBy, tells_answer, tells_refusal, ToldIn, tells_stop, Tells, ask_from, ask_in, behind_stands, ends_later, from_in, give_in, if_in, looked_in, name_stands, path_then, punct_in, quiet_in, taken_in, then_in, tokens_in, unit_is_told}
+use Rattle.cxx_language_laws.proofs.Tells.{IsTold, Quietly, ToldBy, tells_answer, tells_refusal, ToldIn, tells_stop, Tells, ask_from, ask_in, behind_stands, ends_later, from_in, give_in, if_in, looked_in, name_stands, path_then, punct_in, quiet_in, taken_in, then_in, tokens_in, unit_is_told}
 
 -- ---- the names of namespaces (3.4.6)
 
@@ -149,12 +149,12 @@ directive_tells state ahead =
 -- ---- using-declarations (7.3.3)
 
 -- what is declared behind a state, in which the targets are declared
-declared_behind : (s t : CxxState) (ahead : Ahead) (fact : CxxFact) (word : List ℕ) → IsLater s t → fact.scope ≡ t.here.scope → (InScopes s → MayStand t.graph.facts fact) → ToldBy IsLater Quietly s ahead (declare fact word t)
+pub declared_behind : (s t : CxxState) (ahead : Ahead) (fact : CxxFact) (word : List ℕ) → IsLater s t → fact.scope ≡ t.here.scope → (InScopes s → MayStand t.graph.facts fact) → ToldBy IsLater Quietly s ahead (declare fact word t)
 unfolding declare
 declared_behind s t ahead fact word later here may = by_then s ahead (λ is_free. added fact t) (free_quiet t fact word) (λ is_free. added_behind s t ahead fact later (λ is. subst (λ (n : ℕ). n < length (scope_facts t.graph.facts)) (sym here) (later.scopes is).within) may)
 
 -- what there is among some facts, there is among more
-still_there : (s t : CxxState) (number : ℕ) → IsGrown s t → IsThere s.graph number → IsThere t.graph number
+pub still_there : (s t : CxxState) (number : ℕ) → IsGrown s t → IsThere s.graph number → IsThere t.graph number
 still_there s t number grown there =
     let all = ap (λ (fs : List CxxFact). length fs) grown.declared in
     let more = length-append s.graph.facts grown.own in
@@ -203,23 +203,23 @@ bring_tells state ahead begins whole plain = by (using_region_of state.graph sta
     by (Err why) e = tells_refusal why (using_region_told state ahead begins whole why e)
 
 -- what follows its name
-brought_then : {B : Type 0} (go : CxxPath → Reads CxxState B) (state : CxxState) (ahead : Ahead) → (begins_name ahead ≡ true → is_whole_name ahead ≡ true → is_plain_name ahead ≡ false → ToldIn IsLater Told state ahead (go (path_ahead ahead) state (behind_name ahead)))
-    → ToldIn IsLater Told state ahead (then_read (brought_name_at state ahead) go)
+pub brought_then : {B : Type 0} {told : CxxState → Ahead → Stopped → Type 0} → IsTold IsLater told → (go : CxxPath → Reads CxxState B) (state : CxxState) (ahead : Ahead) → (begins_name ahead ≡ true → is_whole_name ahead ≡ true → is_plain_name ahead ≡ false → ToldIn IsLater told state ahead (go (path_ahead ahead) state (behind_name ahead)))
+    → ToldIn IsLater told state ahead (then_read (brought_name_at state ahead) go)
 unfolding brought_name_at
-brought_then go state ahead tells = by (begins_name ahead) refl (is_plain_name ahead) refl (is_keyword keyword.TYPENAME (kind_ahead ahead))
+brought_then {told = told} is go state ahead tells = by (begins_name ahead) refl (is_plain_name ahead) refl (is_keyword keyword.TYPENAME (kind_ahead ahead))
   where
-    by : (b : Bool) → begins_name ahead ≡ b → (c : Bool) → is_plain_name ahead ≡ c → (d : Bool) → ToldIn IsLater Told state ahead (then_read (if b then (if c then refused state (behind ahead) else path_taken state ahead) else (if d then not_built state ahead else refused state ahead)) go)
-    by true begins true plain d = quiet_in later_is_told refl
-    by true begins false plain d = path_then later_is_told go state ahead (λ whole. tells begins whole plain)
-    by false begins c plain true = quiet_in later_is_told refl
-    by false begins c plain false = quiet_in later_is_told refl
+    by : (b : Bool) → begins_name ahead ≡ b → (c : Bool) → is_plain_name ahead ≡ c → (d : Bool) → ToldIn IsLater told state ahead (then_read (if b then (if c then refused state (behind ahead) else path_taken state ahead) else (if d then not_built state ahead else refused state ahead)) go)
+    by true begins true plain d = quiet_in is refl
+    by true begins false plain d = path_then is go state ahead (λ whole. tells begins whole plain)
+    by false begins c plain true = quiet_in is refl
+    by false begins c plain false = quiet_in is refl
 
 using_declaration_tells : Tells IsLater Told using_declaration_at
 unfolding using_declaration_at
 using_declaration_tells state ahead =
     then_in later_is_told (looked_in later_is_told state ahead) (λ from state ahead.
     then_in later_is_told (taken_in later_is_told state ahead) (λ using state ahead.
-    brought_then (λ path. ask (bring_here path) >>= λ declared. tokens (punct_taken punct.SEMICOLON) >>= λ ended. give_part production.using_declaration from []) state ahead (λ begins whole plain.
+    brought_then later_is_told (λ path. ask (bring_here path) >>= λ declared. tokens (punct_taken punct.SEMICOLON) >>= λ ended. give_part production.using_declaration from []) state ahead (λ begins whole plain.
     then_in later_is_told (ask_from (behind_name ahead) (name_stands ahead) (bring_tells state ahead begins whole plain)) (λ declared state ahead.
     then_in later_is_told (tokens_in later_is_told (punct_in unit_is_told punct.SEMICOLON) state ahead) (λ ended. give_part_tells production.using_declaration from [])))))
 

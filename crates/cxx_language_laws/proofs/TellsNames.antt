@@ -1,7 +1,6 @@
 -- What names and calls keep of the state, and what stops them.
 use Rattle.std.proofs.Common.{◌≡◌, refl, sym, ap, subst, ◌∙◌}
-use Rattle.std.specs.Prelude.{Bool, true, false, if◌then◌else◌, ℕ, ◌-◌, List, [], ◌∷◌, length, Option, Some, None, Ok, Err}
-use Rattle.cxx_model.specs.declared.facts.MemberKind.{MemberKind}
+use Rattle.std.specs.Prelude.{Bool, true, false, if◌then◌else◌, ℕ, ◌-◌, List, [], ◌∷◌, ◌++◌, length, Option, Some, None, Ok, Err, codes}
 use Rattle.cxx_model.specs.declared.place.Place.{Place}
 use Rattle.cxx_model.specs.Facts.Declarations as facts
 use Rattle.cxx_model.specs.Facts.Declarations.{CxxGraph, Declares}
@@ -14,27 +13,23 @@ use Rattle.cxx_meaning.specs.Lookups.Wanted.{is_function}
 use Rattle.cxx_reading.specs.Reads.{Ahead}
 use Rattle.cxx_reading.specs.Seen.{Numbered}
 use Rattle.cxx_reading.specs.State.{CxxState}
-use Rattle.cxx_reading.specs.Trees.{CxxPathPart, CxxTree, Label, is_plain_path, tree_of}
-use Rattle.cxx_expr.specs.Calls.{class_called, functions_called, implied_call, implied_callee, implied_chosen, implied_member, implied_question, implied_type, chosen_as, chosen_tree, chosen_call, is_bare, question, function_call, Signature, fits_count, through_tree, through_signature, through_counted, no_callee, through_by, signature_by, through, called_label, without_name, value_call, is_asked_for, called_first, called, name_call}
+use Rattle.cxx_reading.specs.Trees.{CxxPathPart, CxxTree, Label, tree_of}
+use Rattle.cxx_expr.specs.Calls.{functions_called, implied_call, implied_callee, implied_chosen, implied_member, implied_question, implied_type, chosen_as, chosen_tree, chosen_call, is_bare, question, function_call, Signature, fits_count, through_tree, through_signature, through_counted, no_callee, through_by, signature_by, through, called_label, without_name, value_call, is_asked_for, called_first, called, name_call}
 use Rattle.cxx_expr.specs.Implied.{member_label, member_named, named_by, named_here, object_for, object_of_first, object_tree}
-use Rattle.cxx_expr.specs.Names.{Means, are_one_function, is_nonstatic, means_enumerator, means_first, means_function, means_object, means_object_by, means_value, meant_by, named, named_tree, path_in, static_class, values_among, word_in}
+use Rattle.cxx_expr.specs.Names.{is_nonstatic, means_enumerator, means_first, means_object, means_value, meant_by, named, named_tree, path_in, static_class, values_among, word_in}
 use Rattle.cxx_expr.specs.Operands.{is_none, is_of_class, object_operand}
 use Rattle.cxx_expr.specs.Questions.{CxxChosen, Questions}
+use Rattle.cxx_expr.specs.Steps.{written}
+use Rattle.cxx_this.specs.This.{class_at}
 use Rattle.cxx_reading.specs.Initializers.{operand_of}
 use Rattle.cxx_meaning.specs.Conversions.BuiltIn.{operand_kind}
 use Rattle.cxx_language_laws.proofs.QuestionsTell.{DefaultsTell, QuestionsTell, quiet_by, same_by, if_by, when_by, then_by, then_by_from, from_by, give_by}
 use Rattle.cxx_language_laws.proofs.Tells.{IsTold, IsQuiet, ToldBy, tells_refusal, Answers}
 use Rattle.cxx_language_laws.proofs.TellsConversions.{convert_each_tells}
+use Rattle.cxx_language_laws.proofs.TellsMeans.{means_function_tells, means_object_tells}
 use Rattle.cxx_language_laws.proofs.TellsMembers.{fallbacks_tell, member_chosen_tells, selected_among_tells}
 
 -- ---- names
-
-means_object_tells : {kept : CxxState → CxxState → Type 0} {told : CxxState → Ahead → Stopped → Type 0} → IsTold kept told → (place : Place) (needs_object : Bool) (means : Means) → Answers kept told (means_object_by place needs_object means)
-means_object_tells is place true means state ahead = quiet_by is refl
-means_object_tells is place false means state ahead = give_by is means state ahead
-
-means_function_tells : {kept : CxxState → CxxState → Type 0} {told : CxxState → Ahead → Stopped → Type 0} → IsTold kept told → (place : Place) (graph : CxxGraph) (kind : MemberKind) (target : ℕ) (own : CxxType) (all : List Numbered) → Answers kept told (means_function place graph kind target own all)
-means_function_tells is place graph kind target own all state ahead = if_by (are_one_function target all) (means_object_tells is place (is_nonstatic kind) (means_object graph target own) state ahead) (quiet_by is refl)
 
 means_first_tells : {kept : CxxState → CxxState → Type 0} {told : CxxState → Ahead → Stopped → Type 0} → IsTold kept told → (place : Place) (graph : CxxGraph) (list : Option ℕ) (all : List Numbered) (number : ℕ) (what : Declares) → Answers kept told (means_first place graph list all number what)
 means_first_tells is place graph list all number (facts.object of kind is_mutable value first) state ahead = means_object_tells is place (is_nonstatic kind) (means_object graph (first_or number first) of) state ahead
@@ -56,8 +51,8 @@ named_tells is asks label all state ahead unknown = then_by is (means_value_tell
 
 member_named_tells : {kept : CxxState → CxxState → Type 0} {told : CxxState → Ahead → Stopped → Type 0} → IsTold kept told → {q : Questions} → QuestionsTell kept told q → (label : Label) (all : List Numbered) (of : CxxType) (state : CxxState) (ahead : Ahead) → (all ≡ [] → told state ahead (undeclared_at (word_in label).place (word_in label).word)) → ToldBy kept told state ahead (member_named q label all of state)
 unfolding member_named
-member_named_tells is asks label all of state ahead unknown =
-    if_by (is_plain_path (path_in label)) (selected_among_tells is asks (tree_of (member_label label []) []) (object_operand of) (object_tree label of ∷ []) all state ahead unknown) (quiet_by is refl)
+member_named_tells is {q = q} asks label all of state ahead unknown =
+    selected_among_tells is asks (tree_of (member_label label (codes "this")) []) (object_operand of) (object_tree label of ∷ []) (written (path_in label) (q.qualifier (path_in label) state)) all state ahead unknown
 
 named_by_tells : {kept : CxxState → CxxState → Type 0} {told : CxxState → Ahead → Stopped → Type 0} → IsTold kept told → {q : Questions} → QuestionsTell kept told q → (label : Label) (all : List Numbered) (object : Option CxxType) (state : CxxState) (ahead : Ahead) → (all ≡ [] → told state ahead (undeclared_at (word_in label).place (word_in label).word)) → ToldBy kept told state ahead (named_by q label all object state)
 named_by_tells is asks label all None state ahead unknown = named_tells is asks label all state ahead unknown
@@ -98,7 +93,7 @@ chosen_as_tells is tree chosen arguments state ahead = same_by is (chosen_tree t
 
 chosen_call_tells : {kept : CxxState → CxxState → Type 0} {told : CxxState → Ahead → Stopped → Type 0} → IsTold kept told → {q : Questions} → QuestionsTell kept told q → (tree : CxxTree) → DefaultsTell kept told q (path_in tree.label) → (arguments : List CxxTree) (chosen : CxxChosen) → Answers kept told (chosen_call q tree arguments chosen)
 unfolding chosen_call
-chosen_call_tells is {q = q} asks tree defaults arguments chosen state ahead = then_by is (asks.bound tree.label.place chosen.target state ahead) (λ noted state ahead. then_by is (convert_each_tells is q tree.label.place chosen.parameters [] arguments state ahead) (λ given state ahead. then_by is (fallbacks_tell is defaults chosen.target (length arguments) given (length chosen.parameters - length arguments) state ahead) (λ all. chosen_as_tells is tree chosen all)))
+chosen_call_tells is {q = q} asks tree defaults arguments chosen state ahead = then_by is (asks.bound tree.label.place chosen.target state ahead) (λ noted state ahead. then_by is (fallbacks_tell is defaults chosen.target (length arguments) [] (length chosen.parameters - length arguments) state ahead) (λ behind state ahead. then_by is (convert_each_tells is q tree.label.place chosen.parameters [] arguments state ahead) (λ given. chosen_as_tells is tree chosen (given ++ behind))))
 
 -- 3.4.2: a call asks for its functions where its name has a value, or means nothing and stands in no brackets, without
 -- qualifiers
@@ -113,7 +108,7 @@ AskedFor kept told q tree arguments all values state ahead = IsAskedSo tree.labe
 -- 13.3.1.1.1 p3: the same where these are functions of a class
 abbrev pub AskedImplied : (CxxState → CxxState → Type 0) → (CxxState → Ahead → Stopped → Type 0) → Questions → CxxTree → List CxxTree → List Numbered → CxxState → Ahead → Type 0
 AskedImplied kept told q tree arguments values state ahead =
-    (one : Numbered) (others : List Numbered) (class : CxxType) → values ≡ one ∷ others → class_called state.graph tree.label one.fact.scope ≡ Some class → ToldBy kept told state ahead (q.call (implied_question q tree.label (one ∷ others) (implied_type class (object_for state one.fact.scope)) arguments state) state)
+    (one : Numbered) (others : List Numbered) (class : CxxType) → values ≡ one ∷ others → class_at state.graph one.fact.scope ≡ Some class → ToldBy kept told state ahead (q.call (implied_question q tree.label (one ∷ others) (implied_type class (object_for state one.fact.scope)) arguments state) state)
 
 -- both, where it has these declarations
 pub record AskedOf (kept : CxxState → CxxState → Type 0) (told : CxxState → Ahead → Stopped → Type 0) (q : Questions) (tree : CxxTree) (arguments : List CxxTree) (all : List Numbered) (state : CxxState) (ahead : Ahead) : Type 0 where
@@ -135,7 +130,7 @@ function_call_tells is asks tree defaults functions arguments state ahead answer
 -- 9.3, 9.4: a function that belongs to an object has one
 implied_member_tells : {kept : CxxState → CxxState → Type 0} {told : CxxState → Ahead → Stopped → Type 0} → IsTold kept told → {q : Questions} → QuestionsTell kept told q → (tree : CxxTree) (arguments : List CxxTree) (object : Option CxxType) (chosen : CxxChosen) → Answers kept told (implied_member q tree arguments object chosen)
 implied_member_tells is asks tree arguments None chosen state ahead = quiet_by is refl
-implied_member_tells is asks tree arguments (Some of) chosen state ahead = member_chosen_tells is asks (without_name tree) (implied_callee (called_label tree.label arguments) of) of arguments chosen state ahead
+implied_member_tells is {q = q} asks tree arguments (Some of) chosen state ahead = member_chosen_tells is asks (without_name tree) (implied_callee (called_label tree.label arguments) of) of (written (path_in tree.label) (q.qualifier (path_in tree.label) state)) arguments chosen state ahead
 
 implied_chosen_tells : {kept : CxxState → CxxState → Type 0} {told : CxxState → Ahead → Stopped → Type 0} → IsTold kept told → {q : Questions} → QuestionsTell kept told q → (tree : CxxTree) → DefaultsTell kept told q (path_in tree.label) → (arguments : List CxxTree) (object : Option CxxType) (chosen : CxxChosen) → Answers kept told (implied_chosen q tree arguments object chosen)
 unfolding implied_chosen
@@ -158,7 +153,7 @@ called_first_tells is asks tree defaults all arguments [] state ahead are unknow
     when_by (is_asked_for tree.label all) (λ asked. function_call_tells is asks tree defaults [] arguments state ahead (answered asked))
     (λ not_asked. value_call_tells is asks tree all arguments state ahead (λ none. unknown none (subst (λ (some : List Numbered). is_asked_for tree.label some ≡ false) none not_asked)))
 called_first_tells is asks tree defaults all arguments (one ∷ others) state ahead are unknown answered implied =
-    if_by (is_function state.graph one.fact.what) (functions_called_tells is asks tree defaults (one ∷ others) arguments one.fact.scope (class_called state.graph tree.label one.fact.scope) state ahead (answered tt) (λ class of_class. implied one others class refl of_class))
+    if_by (is_function state.graph one.fact.what) (functions_called_tells is asks tree defaults (one ∷ others) arguments one.fact.scope (class_at state.graph one.fact.scope) state ahead (answered tt) (λ class of_class. implied one others class refl of_class))
     (value_call_tells is asks tree all arguments state ahead (λ none. absurd (no_one (ap (values_among state.graph) (sym none) ∙ are))))
   where
     no_one : [] ≡ one ∷ others → ⊥

@@ -1,6 +1,6 @@
 -- What the readers of postfix and unary expressions and of casts keep of the state, and what stops them.
 use Rattle.std.proofs.Common.{◌≡◌, inl, inr, refl, sym, ap, ◌∙◌}
-use Rattle.std.specs.Prelude.{ℕ, Bool, true, false, not, ◌&&◌, ◌||◌, if◌then◌else◌, List, [], ◌∷◌, Option, Some, None, codes}
+use Rattle.std.specs.Prelude.{ℕ, Bool, true, false, not, ◌||◌, if◌then◌else◌, List, [], ◌∷◌, Option, Some, None, codes}
 use Rattle.cxx_model.specs.declared.fault.FaultText.TheVariants as says
 use Rattle.cxx_model.specs.declared.fault.LeftOut.TheVariants as form
 use Rattle.cxx_model.specs.declared.keyword.TheConstants as keyword
@@ -19,7 +19,7 @@ use Rattle.cxx_phrases.specs.Operators.{is_prefix, is_step, operator_ahead}
 use Rattle.cxx_phrases.specs.Phrases.{Phrases, Inner}
 use Rattle.cxx_phrases.specs.Productions as phrase
 use Rattle.cxx_reading.specs.Reads.{Ahead, Got, Reads, More, Done, ◌>>=◌, ask, fault_at, give, looked, then_read, beside, count_ahead, kind_ahead, place_ahead, behind}
-use Rattle.cxx_reading.specs.Tokens.{begins_name, behind_name, is_name, is_plain_name, is_punct, is_keyword, is_whole_name, not_built, part_of, part_then, passed_from, passed_to, path_ahead, path_taken}
+use Rattle.cxx_reading.specs.Tokens.{begins_name, behind_name, is_name, is_punct, is_keyword, is_whole_name, part_of, part_then, passed_from, passed_to, path_ahead, path_taken}
 use Rattle.cxx_reading.specs.Trees.{CxxPath, CxxTree}
 use Rattle.cxx_language_laws.specs.Told.{EndsIn, IsPostfix, is_primary, is_bracketed, is_called, goes_on, IsSelector}
 use Rattle.cxx_language_laws.proofs.PhrasesTell.{PhrasesTell, InnerTell, asked_in}
@@ -60,22 +60,21 @@ none_whole ahead none whole = by ahead.last ahead.tokens none whole
     by last [] none whole = apart whole
     by last (token ∷ tokens) none whole = apart (sym (no_name last token tokens (is_name token.kind) (is_punct punct.SCOPE token.kind) refl refl none) ∙ whole)
 
--- what follows the name of a member, which has no qualifiers
-selected_then : {S B : Type 0} {kept : S → S → Type 0} {told : S → Ahead → Stopped → Type 0} → IsTold kept told → (go : CxxPath → Reads S B) (state : S) (from ahead : Ahead) → EndsIn from.tokens ahead.tokens → (is_plain_name ahead ≡ true → ToldIn kept told state from (go (path_ahead ahead) state (behind_name ahead))) → ToldIn kept told state from (then_read (selected_name state ahead) go)
+-- what follows the name of a member
+selected_then : {S B : Type 0} {kept : S → S → Type 0} {told : S → Ahead → Stopped → Type 0} → IsTold kept told → (go : CxxPath → Reads S B) (state : S) (from ahead : Ahead) → EndsIn from.tokens ahead.tokens → (begins_name ahead ≡ true → is_whole_name ahead ≡ true → ToldIn kept told state from (go (path_ahead ahead) state (behind_name ahead))) → ToldIn kept told state from (then_read (selected_name state ahead) go)
 unfolding selected_name
-selected_then {S = S} {B = B} {kept = kept} {told = told} is go state from ahead stands tells = by (is_punct punct.TILDE (kind_ahead ahead)) (begins_name ahead) refl (is_plain_name ahead) refl
+selected_then {S = S} {B = B} {kept = kept} {told = told} is go state from ahead stands tells = by (is_punct punct.TILDE (kind_ahead ahead)) (begins_name ahead) refl
   where
-    by : (tilde begins : Bool) → begins_name ahead ≡ begins → (plain : Bool) → is_plain_name ahead ≡ plain → ToldIn kept told state from (then_read (if tilde then fault_at (place_ahead ahead) (says.LeftOut form.DestructorCall) state ahead else (if begins && not plain then not_built state ahead else path_taken state ahead)) go)
-    by true begins b plain p = quiet_in is refl
-    by false true b true p = path_from is go state from ahead stands (λ whole. tells p)
-    by false true b false p = quiet_in is refl
-    by false false b plain p = path_from is go state from ahead stands (λ whole. absurd (none_whole ahead b whole))
+    by : (tilde begins : Bool) → begins_name ahead ≡ begins → ToldIn kept told state from (then_read (if tilde then fault_at (place_ahead ahead) (says.LeftOut form.DestructorCall) state ahead else path_taken state ahead) go)
+    by true begins b = quiet_in is refl
+    by false true b = path_from is go state from ahead stands (λ whole. tells b whole)
+    by false false b = path_from is go state from ahead stands (λ whole. absurd (none_whole ahead b whole))
 
 selected_step_tells : {S : Type 0} {kept : S → S → Type 0} {told : S → Ahead → Stopped → Type 0} → IsTold kept told → {asks : Phrases S} {inner : Inner S} → PhrasesTell kept told asks inner → (number : ℕ) (from : Ahead) (object : CxxTree) (state : S) (ahead : Ahead) → IsPostfix asks inner from object state ahead → IsSelector number ahead → ToldIn kept told state ahead (selected_step asks number from object state ahead)
 unfolding selected_step
 selected_step_tells is {asks = a} asks number from object state ahead reads selects =
-    selected_then is (λ path. looked >>= λ to. ask (a.whole (member_tree number (place_ahead ahead) path object from to)) >>= λ tree. give (More tree)) state ahead (behind ahead) (behind_stands ahead) (λ plain.
-    then_in is (ask_from (behind_name (behind ahead)) (ends_later ahead.tokens (behind ahead).tokens (behind_name (behind ahead)).tokens (behind_stands ahead) (name_stands (behind ahead))) (asks.member state ahead (record { from = from; object = object; reads = reads; number = number; selects = selects; names = plain }))) (λ tree. give_in is (More tree)))
+    selected_then is (λ path. looked >>= λ to. ask (a.whole (member_tree number (place_ahead ahead) path object from to)) >>= λ tree. give (More tree)) state ahead (behind ahead) (behind_stands ahead) (λ begins whole.
+    then_in is (ask_from (behind_name (behind ahead)) (ends_later ahead.tokens (behind ahead).tokens (behind_name (behind ahead)).tokens (behind_stands ahead) (name_stands (behind ahead))) (asks.member state ahead (record { from = from; object = object; reads = reads; number = number; selects = selects; begins = begins; whole = whole }))) (λ tree. give_in is (More tree)))
 
 postfix_step_tells : {S : Type 0} {kept : S → S → Type 0} {told : S → Ahead → Stopped → Type 0} → IsTold kept told → {asks : Phrases S} {inner : Inner S} → PhrasesTell kept told asks inner → InnerTell kept told inner → (from : Ahead) (so_far : CxxTree) (state : S) (ahead : Ahead) → IsPostfix asks inner from so_far state ahead → ToldIn kept told state ahead (postfix_step asks inner from so_far state ahead)
 unfolding postfix_step

@@ -23,7 +23,7 @@ use Rattle.cxx_reading.specs.Units.{is_incomplete}
 use Rattle.cxx_expr.specs.Bases.{is_only_base}
 use Rattle.cxx_expr.specs.Casts.{allowed_at, class_needed_at, explicit_found, explicit_tree, found_at, leads_to_one, static_found, steps_to_one, explicit_by, explicit_built, needs_class, explicit, cast_over, named_by, static_by, static_built, static_cast_of, constant, reinterpreted, cast_as, split_last, cast_of, cast, has_zero, zero_tree, zero, several, functional_of, functional, target_of}
 use Rattle.cxx_expr.specs.Operands.{all_three, asks_operator, both, built_operand, given_over, judged_beside, judged_to, only}
-use Rattle.cxx_expr.specs.Operators.{misshapen, operator_in, meaning_at, with_meaning, built, built_by, unconverted, own_meaning, prefix_built, prefix_asked, prefix_of, prefix, step_built, step_of, step, operand_beside, binary_built, binary_asked, binary_of, binary_by, arms_built, arms, conditional_built, any_class, is_test, conditional_of, conditional}
+use Rattle.cxx_expr.specs.Operators.{misshapen, operator_in, meaning_at, with_meaning, built, built_by, unconverted, own_meaning, prefix_built, points_to_member, prefix_asked, prefix_of, prefix, step_built, step_of, step, operand_beside, binary_built, binary_asked, binary_of, binary_by, arms_built, arms, conditional_built, any_class, is_test, conditional_of, conditional}
 use Rattle.cxx_expr.specs.Questions.{Questions}
 use Rattle.cxx_language_laws.proofs.QuestionsTell.{quiet_by, same_by, if_by, then_by, give_by}
 use Rattle.cxx_language_laws.proofs.Tells.{IsQuiet, IsTold, Answers}
@@ -66,7 +66,7 @@ prefix_asked_tells is tree one state ahead = if_by (nat_eq (operator_in tree) pu
 prefix_of_tells : {kept : CxxState → CxxState → Type 0} {told : CxxState → Ahead → Stopped → Type 0} → IsTold kept told → (q : Questions) (tree : CxxTree) (one : Option CxxTree) → Answers kept told (prefix_of q tree one)
 unfolding prefix_built
 prefix_of_tells is q tree None state ahead = misshapen_tells is tree state ahead
-prefix_of_tells is q tree (Some one) state ahead = if_by (asks_operator one) (prefix_asked_tells is tree one state ahead) (built_by_tells is q tree (operator_in tree) (one ∷ []) (operand_of one ∷ []) state ahead)
+prefix_of_tells is q tree (Some one) state ahead = if_by (points_to_member tree one) (quiet_by is refl) (if_by (asks_operator one) (prefix_asked_tells is tree one state ahead) (built_by_tells is q tree (operator_in tree) (one ∷ []) (operand_of one ∷ []) state ahead))
 
 pub prefix_tells : {kept : CxxState → CxxState → Type 0} {told : CxxState → Ahead → Stopped → Type 0} → IsTold kept told → (q : Questions) (tree : CxxTree) → Answers kept told (prefix q tree)
 unfolding prefix

@@ -1,9 +1,10 @@
 -- What holds of the calls of every whole reading, in the words of 13.3.
-use Rattle.std.specs.Prelude.{ℕ, ◌≡◌, ◌⊎◌, Bool, true, ◌&&◌, if◌then◌else◌, List, ◌∷◌, ◌++◌, Option, Some, None, Ok}
+use Rattle.std.specs.Prelude.{ℕ, ◌≡◌, ◌⊎◌, Bool, ◌&&◌, if◌then◌else◌, List, ◌∷◌, ◌++◌, Option, Some, None, Ok}
 use Rattle.std.specs.List.{AllByRecursion}
 use Rattle.cxx_model.specs.declared.lookup.Found.{Found}
 use Rattle.cxx_model.specs.declared.lookup.Found.TheVariants as sought
 use Rattle.cxx_model.specs.declared.lookup.MemberFound.TheVariants as member_found
+use Rattle.cxx_model.specs.declared.types.ClassId.{ClassId}
 use Rattle.cxx_model.specs.declared.types.FactId.{FactId}
 use Rattle.cxx_model.specs.Choice.Better.{IsBest}
 use Rattle.cxx_model.specs.Facts.Declarations.{CxxFact, CxxGraph, CxxName}
@@ -12,12 +13,14 @@ use Rattle.cxx_meaning.specs.Conversions.Standard.{CxxOperand}
 use Rattle.cxx_meaning.specs.Lookups.Member.{member}
 use Rattle.cxx_meaning.specs.Lookups.Wanted.{any_name}
 use Rattle.cxx_reading.specs.declared.region.Region.{Region}
+use Rattle.cxx_reading.specs.declared.region.Region.TheVariants as region
 use Rattle.cxx_reading.specs.Givers.{with_givers}
 use Rattle.cxx_reading.specs.Paths.{name_in, region_of, sought_in}
 use Rattle.cxx_reading.specs.Seen.{Numbered, fact_numbers, numbered_at}
 use Rattle.cxx_reading.specs.State.{CxxState, CxxCall}
 use Rattle.cxx_reading.specs.Trees.{CxxPath, is_plain_path, last_part}
 use Rattle.cxx_reading.specs.Units.{CxxReading}
+use Rattle.cxx_paths.specs.Behind.{region_behind}
 use Rattle.cxx_this.specs.This.{class_at, this_in}
 use Rattle.cxx_expr.specs.Calls.{implied_type}
 use Rattle.cxx_expr.specs.Implied.{object_with}
@@ -71,26 +74,30 @@ pub record AreOfName (before : CxxGraph) (operands : List CxxOperand) (functions
   pub clear : IsClear (sought_in before any_name where_ (name_in path))
   pub are : functions ≡ values_of_call before scope where_ path is_open operands
 
--- 5.2.5, 10.2, 13.3.1.1.1: Some functions are the members with the name that is called of the class of an object.
-pub record AreMembers (before : CxxGraph) (object : CxxOperand) (path : CxxPath) (functions : List Numbered) : Type 0 where
+-- 5.2.5, 10.2, 13.3.1.1.1: Some functions are the members with the name that is called of the class of an object. Where the
+-- name has qualifiers behind the object, they are those of the class that these mean where the call stands (3.4.5).
+pub record AreMembers (before : CxxGraph) (scope : ℕ) (object : CxxOperand) (path : CxxPath) (functions : List Numbered) : Type 0 where
   pub class : ℕ
   pub of_object : class_of_object object ≡ Some class
+  -- 3.4.5: the class in which they are sought: without qualifiers that of the object
+  pub within : ClassId
+  pub qualifies : region_behind before scope (record { 0 = class }) path ≡ Ok (region.Class within)
   pub found : List FactId
   pub way : List ℕ
-  pub finds : member before any_name (record { 0 = class }) (name_in path) ≡ Ok (member_found.Set found way)
+  pub finds : member before any_name within (name_in path) ≡ Ok (member_found.Set found way)
   pub are : functions ≡ values_among before (numbered_at before (fact_numbers found))
 
--- the same by whatever name
+-- the same in whatever scope, by whatever name
 pub record AreOfObject (before : CxxGraph) (object : CxxOperand) (functions : List Numbered) : Type 0 where
+  pub scope : ℕ
   pub path : CxxPath
-  pub are : AreMembers before object path functions
+  pub are : AreMembers before scope object path functions
 
--- 9.3.1, 13.3.1.1.1 p3: Some functions are those of a class that a name without qualifiers means in a scope, by whether a
--- default argument stands there. Their object is that for which the function round the call is called, or one that is made up.
+-- 9.3.1, 13.3.1.1.1 p3: Some functions are those of a class that a name means in a scope, without an object that is written, by
+-- whether a default argument stands there. Their object is that for which the function round the call is called, or one that is
+-- made up.
 pub record AreImpliedIn (before : CxxGraph) (scope : ℕ) (path : CxxPath) (in_default : Bool) (object : CxxOperand) (functions : List Numbered) : Type 0 where
-  -- 3.4.1: the name has no qualifiers
-  pub is_plain : is_plain_path path ≡ true
-  -- 3.4.1: where it is looked up, outward from the scope
+  -- 3.4.1, 3.4.3.1: where it is looked up: outward from the scope, or in what its qualifiers mean
   pub where_ : Region
   pub qualifies : region_of before scope path ≡ Ok where_
   -- 3.4, 10.2: what is found of it there is clear
@@ -115,7 +122,7 @@ pub record AreImplied (before : CxxGraph) (object : CxxOperand) (functions : Lis
   pub are : AreImpliedIn before scope path in_default object functions
 
 -- 13.3.1.1.1: Which functions a call may mean, with its object, where it has one, and its arguments. The object stands before
--- `.` or `->`, or the call is one by a name alone that means functions of a class.
+-- `.` or `->`, or the call is one by a name without an object that means functions of a class.
 abbrev pub MayMean : CxxGraph → Option CxxOperand → List CxxOperand → List Numbered → Type 0
 MayMean before None operands functions = AreOfName before operands functions
 MayMean before (Some object) operands functions = AreOfObject before object functions ⊎ AreImplied before object functions
@@ -125,8 +132,8 @@ abbrev pub IsRatedSo : CxxGraph → Option CxxOperand → List CxxOperand → Ra
 IsRatedSo graph object operands one = IsOutcome graph object operands one.candidate one.sequences one.outcome
 
 -- The call means one of the functions that its name means among the declarations before it, or that the types of its
--- arguments find among them, or of the members of the class of its object, or of those of a class that its name alone means:
--- the one that is viable and better than every other viable one.
+-- arguments find among them, or of the members of the class of its object, or of the class that is written before it, or of
+-- those of a class that its name means without an object: the one that is viable and better than every other viable one.
 pub record IsBestCall (state : CxxState) (call : CxxCall) : Type 0 where
   -- what is declared before the call, and behind it
   pub before : CxxGraph

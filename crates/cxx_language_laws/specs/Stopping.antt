@@ -27,7 +27,7 @@ use Rattle.cxx_reading.specs.Trees.{CxxTree, in_turn}
 use Rattle.cxx_reading.specs.Units.{Said, Listed, give_trees, inside_step, linkages_passed, name_in, no_declarators, said_by}
 use Rattle.cxx_language.specs.Blocks.{condition_part, declared_condition_at, local_declaration_at, local_step}
 use Rattle.cxx_language.specs.Bodies.{result_of}
-use Rattle.cxx_language.specs.Classes.{BaseList, Head as ClassHead, Labelled, Members, base_list, bases_in, bases_or_none, begins_virtual, behind_bases, behind_virtual, class_at, class_begins, class_whole, declaration_specifiers, give_members, head_at, labelled, list_step, member_declaration_at, member_specifiers, member_step, type_of_member, words_of_member}
+use Rattle.cxx_language.specs.Classes.{BaseList, Head as ClassHead, Labelled, Members, base_list, bases_in, bases_or_none, begins_virtual, behind_bases, behind_virtual, class_at, class_begins, class_name, class_whole, declaration_specifiers, give_members, head_at, labelled, list_step, member_declaration_at, member_specifiers, member_step, type_of_member, words_of_member}
 use Rattle.cxx_language.specs.Later.{defaults_read, each_read, later_read, waiting_read}
 use Rattle.cxx_later.specs.Defaults.{LaterDefault, defaults_in, defaults_kept}
 use Rattle.cxx_later.specs.Passing.{forward_to}
@@ -42,7 +42,7 @@ use Rattle.cxx_statements.specs.declared.parts.Purpose.TheVariants as purpose
 use Rattle.cxx_statements.specs.Statements.{Around, CxxTarget, begins_no_object, begins_statement, begun, body_at, first_part, in_a_loop, in_a_switch, label_step, labels_in, never_ended, nothing_around, plain_statement, second_part, statement_in, statement_step, sub_in, to_bool, to_promoted, unlabelled_in, within}
 use Rattle.cxx_language.specs.Asked.{answers, asked, inner_at, phrases_at}
 use Rattle.cxx_language.specs.Statements.{expression_for, parts_at, statement_head}
-use Rattle.cxx_language.specs.Spaces.{alias_at, namespace_at, using_at}
+use Rattle.cxx_language.specs.Spaces.{alias_at, member_using_at, namespace_at, using_at}
 use Rattle.cxx_language.specs.Units.{declaration_at, declarator_step, function_declared, linkage_opened, simple_declaration_at}
 use Rattle.cxx_language.specs.Values.{constant_part, has_value}
 use Rattle.cxx_answers.specs.Defaults.{begin_later}
@@ -124,10 +124,14 @@ pub data Part : Type 0 where
   some_specifiers : ℕ → SpecifierPlace → Part
   -- clause 9: the definition of a class, from its key on, behind other specifiers
   a_class : ℕ → Specifiers → Part
+  -- 9, 3.4.3: its name behind the key, if it has one, which may have qualifiers
+  a_class_name : Part
   -- clause 10: the bases of a class, behind the `:`
   some_bases : BaseList → Part
   -- 9.2: the members of the class with a name, up to the end of their list
   some_members : ℕ → Option Lexeme → Members → Part
+  -- 7.3.3: in their list, a using-declaration with an access (11), from the word `using` on
+  a_member_using : Access → Part
   -- 9.2: a declaration of members with an access (11)
   a_member_declaration : ℕ → Access → Part
   some_member_declarators : ℕ → Labelled → Said → Listed → Part
@@ -168,12 +172,14 @@ pub data Part : Type 0 where
   a_declared_condition : ℕ → Part
   a_condition_initializer : ℕ → Lexeme → CxxType → ℕ → Part
 
--- it has no part in turn: expressions stand in it, or names of namespaces or bases
+-- it has no part in turn: expressions stand in it, or names of namespaces, classes, bases or members that are brought
 abbrev pub IsInnermost : Part → Type 0
 IsInnermost (an_alias from name) = Unit {0}
 IsInnermost a_using = Unit {0}
 IsInnermost (some_specifiers room place) = Unit {0}
+IsInnermost a_class_name = Unit {0}
 IsInnermost (some_bases of) = Unit {0}
+IsInnermost (a_member_using access) = Unit {0}
 IsInnermost (some_further_specifiers room place so_far) = Unit {0}
 IsInnermost (a_declarator room naming) = Unit {0}
 IsInnermost (a_member_value room name of number) = Unit {0}
@@ -200,8 +206,10 @@ IsStopped (a_simple_declaration room as_extern) state ahead fault = simple_decla
 IsStopped (some_declarators room said so_far) state ahead fault = IsStoppedIn (declarator_step room said) give_trees so_far state ahead fault
 IsStopped (some_specifiers room place) state ahead fault = specifiers_of room place state ahead ≡ Err (Faulty fault)
 IsStopped (a_class room so_far) state ahead fault = class_at room so_far state ahead ≡ Err (Faulty fault)
+IsStopped a_class_name state ahead fault = class_name state ahead ≡ Err (Faulty fault)
 IsStopped (some_bases of) state ahead fault = base_list of state ahead ≡ Err (Faulty fault)
 IsStopped (some_members room name so_far) state ahead fault = IsStoppedIn (list_step room name) give_members so_far state ahead fault
+IsStopped (a_member_using access) state ahead fault = member_using_at access state ahead ≡ Err (Faulty fault)
 IsStopped (a_member_declaration room access) state ahead fault = member_declaration_at room access state ahead ≡ Err (Faulty fault)
 IsStopped (some_member_declarators room access said so_far) state ahead fault = IsStoppedIn (member_step room access said) give_trees so_far state ahead fault
 IsStopped (some_defaults defaults) state ahead fault = defaults_read defaults state ahead ≡ Err (Faulty fault)
@@ -256,17 +264,18 @@ pub record IsAlias (ahead : Ahead) : Type 0 where
 abbrev pub alias_name : Ahead → Lexeme
 alias_name ahead = token_in (behind ahead).tokens
 
--- 9, 3.3.6, 10: The head of a class stands ahead, its key and its name, if it has one, the class begins, and its bases are read where it has
--- some. The reader stands in its scope then, with its members ahead, behind the brace.
+-- 9, 3.3.6, 10: The head of a class stands ahead, its key and its name, if it has one, behind which the reader stands in what declares
+-- the class, the class begins there, and its bases are read where it has some. The reader stands in its scope then, with its
+-- members ahead, behind the brace.
 pub data BeginsClass (state : CxxState) (ahead : Ahead) (head : ClassHead) (bases : List CxxTree) : CxxState → Ahead → Type 0 where
-  begins_class : (colon brace : Ahead) (begun : ℕ × CxxState) (entered : CxxState) → Gives head_at state ahead head state colon → class_begins head state ≡ Ok begun → Gives (bases_or_none state.here.scope begun.0 head.access) begun.1 colon bases entered brace
+  begins_class : (colon brace : Ahead) (home : CxxState) (begun : ℕ × CxxState) (entered : CxxState) → Gives head_at state ahead head home colon → class_begins head home ≡ Ok begun → Gives (bases_or_none home.here.scope begun.0 head.access) begun.1 colon bases entered brace
       → BeginsClass state ahead head bases entered (behind brace)
 
 -- 10: The head of a class stands ahead, the class begins, and a `:` is behind its head. The names of its bases are looked up
--- where it is declared, and the reader stands there, with them ahead.
+-- in what declares it, and the reader stands there, with them ahead.
 pub data NamesBases (state : CxxState) (ahead : Ahead) : BaseList → CxxState → Ahead → Type 0 where
-  names_bases : (head : ClassHead) (colon : Ahead) (begun : ℕ × CxxState) → Gives head_at state ahead head state colon → class_begins head state ≡ Ok begun → is_punct punct.COLON (kind_ahead colon) ≡ true
-      → NamesBases state ahead (bases_in begun.0 head.access begun.1.here.scope) (at_scope state.here.scope begun.1) (behind colon)
+  names_bases : (head : ClassHead) (colon : Ahead) (home : CxxState) (begun : ℕ × CxxState) → Gives head_at state ahead head home colon → class_begins head home ≡ Ok begun → is_punct punct.COLON (kind_ahead colon) ≡ true
+      → NamesBases state ahead (bases_in begun.0 head.access begun.1.here.scope) (at_scope home.here.scope begun.1) (behind colon)
 
 -- 3.1, 3.2, 3.3.1: The name of a declarator is declared, with a number, before its initializer, which is ahead.
 pub data Initializes (said : Said) (declarator : Declarator) (before : CxxState) : ℕ → CxxState → Type 0 where
@@ -359,12 +368,16 @@ pub data Leads : Part → CxxState → Ahead → Part → CxxState → Ahead →
       → Leads (some_bodies (one ∷ others) so_far) state ahead (some_bodies others (so_far ++ tree ∷ [])) after rest
   to_later_body : {room : ℕ} {one : Waiting} {others : List Waiting} {so_far : List CxxTree} {state between : CxxState} {defined begun : Unit {0} × CxxState} {ahead rest : Ahead} → one.room ≡ suc room → Gives (forward_to one.first) state ahead tt between rest
       → define_declared (name_declared one.declarator) one.number between ≡ Ok defined → begin_body one.list one.number (result_of one.of) defined.1 ≡ Ok begun → Leads (some_bodies (one ∷ others) so_far) state ahead (a_body room) begun.1 (behind rest)
+  -- 9, 3.4.3: its name, or none
+  in_class_name : {room : ℕ} {so_far : Specifiers} {state : CxxState} {ahead : Ahead} → Leads (a_class room so_far) state ahead a_class_name state (behind ahead)
   -- 10: its bases
   in_bases : {room : ℕ} {so_far : Specifiers} {of : BaseList} {state after : CxxState} {ahead rest : Ahead} → NamesBases state ahead of after rest → Leads (a_class room so_far) state ahead (some_bases of) after rest
   -- 9.2: its members, one declaration after another, each of specifiers and declarators
   in_class : {room : ℕ} {so_far : Specifiers} {head : ClassHead} {bases : List CxxTree} {state after : CxxState} {ahead rest : Ahead} → BeginsClass state ahead head bases after rest
       → Leads (a_class (suc room) so_far) state ahead (some_members room head.name (behind_bases bases head.access)) after rest
   next_member : {room : ℕ} {name : Option Lexeme} {so_far more : Members} {state after : CxxState} {ahead rest : Ahead} → Gives (list_step room name so_far) state ahead (More more) after rest → Leads (some_members room name so_far) state ahead (some_members room name more) after rest
+  -- 7.3.3: a using-declaration
+  in_member_using : {room : ℕ} {name : Option Lexeme} {so_far : Members} {state : CxxState} {ahead : Ahead} → is_keyword keyword.USING (kind_ahead ahead) ≡ true → Leads (some_members room name so_far) state ahead (a_member_using so_far.access) state ahead
   in_member : {room : ℕ} {name : Option Lexeme} {so_far : Members} {state : CxxState} {ahead : Ahead} → Leads (some_members room name so_far) state ahead (a_member_declaration room so_far.access) state ahead
   in_member_specifiers : {room : ℕ} {access : Access} {state : CxxState} {ahead : Ahead} → Leads (a_member_declaration room access) state ahead (some_specifiers room where_.Member) state (behind_virtual ahead)
   -- clause 9: a class that is defined there, and further specifiers behind it

@@ -4,6 +4,7 @@ use Rattle.std.specs.List.{Contains}
 use Rattle.cxx_model.specs.declared.evidence.Evidence.TheVariants as evidence
 use Rattle.cxx_model.specs.declared.fault.FaultText.{FaultText}
 use Rattle.cxx_model.specs.declared.fault.FaultText.TheVariants as says
+use Rattle.cxx_model.specs.declared.keyword.TheConstants as keyword
 use Rattle.cxx_model.specs.declared.limits.TheConstants as limits
 use Rattle.cxx_model.specs.declared.lookup.Found.{Found}
 use Rattle.cxx_model.specs.declared.lookup.Found.TheVariants as sought
@@ -31,6 +32,8 @@ use Rattle.cxx_meaning.specs.Lookups.Wanted.{Wanted, any_name, before_colons, na
 use Rattle.cxx_reading.specs.declared.region.Region.{Region}
 use Rattle.cxx_reading.specs.declared.region.Region.TheVariants as region
 use Rattle.cxx_declare.specs.Outside.{scope_of_class}
+use Rattle.cxx_paths.specs.Behind.{first_behind, region_behind}
+use Rattle.cxx_paths.specs.Using.{member_region_of}
 use Rattle.cxx_reading.specs.Declaring.{scope_count}
 use Rattle.cxx_reading.specs.Linked.{scope_id}
 use Rattle.cxx_reading.specs.Paths.{by_bases, first_region, name_in, place_of_fact, region_by, region_of, sought_in}
@@ -38,7 +41,7 @@ use Rattle.cxx_reading.specs.Initializers.{operand_of}
 use Rattle.cxx_reading.specs.Reads.{Ahead, Got, More, kind_ahead, place_ahead, behind}
 use Rattle.cxx_reading.specs.Seen.{Numbered, fact_numbers, numbered_at}
 use Rattle.cxx_reading.specs.State.{CxxState, first_state, unit_scope}
-use Rattle.cxx_reading.specs.Tokens.{begins_name, behind_name, is_end, is_plain_name, is_punct, is_whole_name, path_ahead}
+use Rattle.cxx_reading.specs.Tokens.{begins_name, behind_name, is_end, is_keyword, is_punct, is_whole_name, path_ahead}
 use Rattle.cxx_reading.specs.Trees.{CxxPath, CxxPathPart, CxxTree, last_part}
 use Rattle.cxx_reading.specs.Units.{with_part}
 use Rattle.cxx_phrases.specs.Arguments.{arguments_at}
@@ -163,14 +166,15 @@ member_part is = word_in is.call.callee.label
 abbrev pub member_operands : {room : ℕ} {before : CxxState} {ahead : Ahead} → IsMemberCall room before ahead → List CxxOperand
 member_operands is = judged_each answers is.call.arguments is.call.at
 
--- 13.3.1.1.1: the object has the type of what is called, and the functions are the members of its class with that name
+-- 13.3.1.1.1: the object has the type of what is called, and the functions are the members with that name of its class, or of
+-- the class that the qualifiers of the name mean there (3.4.5)
 pub record AreMembersCalled {room : ℕ} {before : CxxState} {ahead : Ahead} (is : IsMemberCall room before ahead) (functions : List Numbered) : Type 0 where
   pub of : CxxType
   pub typed : is.call.callee.label.of ≡ Some of
-  pub are : AreMembers (declared_then is) (object_operand of) (path_in is.call.callee.label) functions
+  pub are : AreMembers (declared_then is) is.call.at.here.scope (object_operand of) (path_in is.call.callee.label) functions
 
--- 9.3.1, 13.3.1.1.1 p3: the called name has no qualifiers and means functions of a class where it stands, once its arguments are
--- read, and they have an object
+-- 9.3.1, 13.3.1.1.1 p3: the called name means functions of a class where it stands, once its arguments are read, and they have
+-- an object
 abbrev pub AreImpliedCalled : {room : ℕ} {before : CxxState} {ahead : Ahead} → IsUnitCall room before ahead → CxxOperand → List Numbered → Type 0
 AreImpliedCalled call object functions = AreImpliedIn call.at.graph call.at.here.scope (called call) call.at.in_default object functions
 
@@ -188,19 +192,20 @@ pub data IsChoiceFault (before : CxxState) (ahead : Ahead) (fault : Fault) : Typ
 abbrev pub IsSelector : ℕ → Ahead → Type 0
 IsSelector number ahead = (is_punct punct.DOT (kind_ahead ahead) ≡ true × number ≡ phrase.member) ⊎ (is_punct punct.ARROW (kind_ahead ahead) ≡ true × number ≡ phrase.arrow)
 
--- 5.2.5: An object was read, `.` or `->` is ahead, and behind that a name without qualifiers.
+-- 5.2.5: An object was read, `.` or `->` is ahead, and behind that a name with its qualifiers.
 pub record IsSelected {S : Type 0} (asks : Phrases S) (inner : Inner S) (before : S) (ahead : Ahead) : Type 0 where
   pub from : Ahead
   pub object : CxxTree
   pub reads : IsPostfix asks inner from object before ahead
   pub number : ℕ
   pub selects : IsSelector number ahead
-  pub names : is_plain_name (behind ahead) ≡ true
+  pub begins : begins_name (behind ahead) ≡ true
+  pub whole : is_whole_name (behind ahead) ≡ true
 
 abbrev pub IsUnitSelected : ℕ → CxxState → Ahead → Type 0
 IsUnitSelected room before ahead = IsSelected (phrases_at room) (inner_at room).phrases before ahead
 
--- the name of the member
+-- the name of the member, behind what is ahead
 abbrev pub selected_part : Ahead → CxxPathPart
 selected_part ahead = last_part (path_ahead (behind ahead)).parts
 
@@ -210,19 +215,33 @@ pub data IsOfObject (before : CxxState) (place : Place) (object : CxxTree) : ℕ
   of_pointed : (class : ℕ) (meaning : CxxBuiltIn) (parts : List CxxTree) (at : CxxState) → built_in_result before.graph punct.STAR (operand_of object ∷ []) ≡ Ok (Some meaning) → convert_each answers place meaning.operands [] (object ∷ []) before ≡ Ok (parts, at) → class_of_object (built_operand meaning) ≡ Some class
       → IsOfObject before place object phrase.arrow class at
 
--- 10.2: A member of an object is looked up, in the class of the object, at the place of the fault.
+-- 3.4.5: A name stands behind an object of a class: behind `.` or `->`, which is ahead, in the state in which it is looked up;
+-- or as that of a function which is called, once the arguments are read (5.2.2).
+pub data IsBehindObject (before : CxxState) (ahead : Ahead) : CxxPath → ClassId → CxxState → Type 0 where
+  behind_selector : (room : ℕ) (selected : IsUnitSelected room before ahead) (class : ℕ) (at : CxxState) → IsOfObject before (place_ahead ahead) selected.object selected.number class at → IsBehindObject before ahead (path_ahead (behind ahead)) (record { 0 = class }) at
+  behind_called : (room : ℕ) (is : IsMemberCall room before ahead) (of : CxxType) (class : ℕ) → is.call.callee.label.of ≡ Some of → class_of_object (object_operand of) ≡ Some class → IsBehindObject before ahead (path_in is.call.callee.label) (record { 0 = class }) is.call.at
+
+-- 3.4.5: the class in which the last part of a name behind an object is looked up: that of the object, or the one that its
+-- qualifiers mean where it stands
+abbrev pub IsNamingClass : CxxState → ℕ → CxxPath → ClassId → Type 0
+IsNamingClass at class path within = region_behind at.graph at.here.scope (record { 0 = class }) path ≡ Ok (region.Class within)
+
+-- 10.2: A member of an object is looked up, in the class of the object or in that which its qualifiers mean, at the place of the
+-- fault.
 pub record IsSoughtMember (before : CxxState) (ahead : Ahead) (finds : MemberFound) (fault : Fault) (word : List ℕ) : Type 0 where
   pub room : ℕ
   pub selected : IsUnitSelected room before ahead
   pub class : ℕ
   pub at : CxxState
   pub of : IsOfObject before (place_ahead ahead) selected.object selected.number class at
+  pub within : ClassId
+  pub qualifies : IsNamingClass at class (path_ahead (behind ahead)) within
   pub spelled_so : (selected_part ahead).word ≡ word
   pub is_at : (selected_part ahead).place ≡ fault.place
-  pub finds_so : member at.graph any_name (record { 0 = class }) (spelled word) ≡ Ok finds
+  pub finds_so : member at.graph any_name within (spelled word) ≡ Ok finds
 
--- 5.2.2, 10.2: A member that is called is looked up again where its arguments are read, in the class of the object, at the
--- place of the fault.
+-- 5.2.2, 10.2: A member that is called is looked up again where its arguments are read, in the class of the object or in that
+-- which its qualifiers mean, at the place of the fault.
 pub record IsSoughtCalled (before : CxxState) (ahead : Ahead) (finds : MemberFound) (fault : Fault) (word : List ℕ) : Type 0 where
   pub room : ℕ
   pub is : IsMemberCall room before ahead
@@ -230,9 +249,11 @@ pub record IsSoughtCalled (before : CxxState) (ahead : Ahead) (finds : MemberFou
   pub typed : is.call.callee.label.of ≡ Some of
   pub class : ℕ
   pub of_object : class_of_object (object_operand of) ≡ Some class
+  pub within : ClassId
+  pub qualifies : IsNamingClass is.call.at class (path_in is.call.callee.label) within
   pub spelled_so : (member_part is).word ≡ word
   pub is_at : (member_part is).place ≡ fault.place
-  pub finds_so : member (declared_then is) any_name (record { 0 = class }) (spelled word) ≡ Ok finds
+  pub finds_so : member (declared_then is) any_name within (spelled word) ≡ Ok finds
 
 -- 3.3.7: nothing that is found has a value
 abbrev pub HasNoValue : CxxGraph → MemberFound → Type 0
@@ -259,9 +280,9 @@ abbrev pub IsWantedBefore : Wanted → Wanted → List CxxPathPart → Type 0
 IsWantedBefore wants wanted [] = IsWantedLast wanted
 IsWantedBefore wants wanted (next ∷ others) = wanted ≡ wants
 
--- 3.4: A part of a name is looked up from a scope, the last one or one before `::`, at the place of the fault: what its
--- qualifiers say of where it is looked up, and what is found of it there, as it is wanted.
-pub record IsSought (graph : CxxGraph) (scope : ℕ) (path : CxxPath) (wanted : Wanted) (finds : Found) (fault : Fault) (word : List ℕ) : Type 0 where
+-- 3.4: A part of a name is looked up, the last one or one before `::`, at the place of the fault: what its qualifiers say of where
+-- it is looked up, given where the first part is, and what is found of it there, as it is wanted.
+pub record IsSoughtFrom (graph : CxxGraph) (first : Region) (path : CxxPath) (wanted : Wanted) (finds : Found) (fault : Fault) (word : List ℕ) : Type 0 where
   pub before : List CxxPathPart
   pub part : CxxPathPart
   pub others : List CxxPathPart
@@ -273,14 +294,44 @@ pub record IsSought (graph : CxxGraph) (scope : ℕ) (path : CxxPath) (wanted : 
   pub spelled_so : part.word ≡ word
   pub is_at : part.place ≡ fault.place
   pub where_ : Region
-  pub qualifies : region_by graph wants classes (first_region scope path.global) (before ++ part ∷ []) ≡ Ok where_
+  pub qualifies : region_by graph wants classes first (before ++ part ∷ []) ≡ Ok where_
   pub finds_so : sought_in graph wanted where_ (spelled word) ≡ finds
+
+-- 3.4: the same from a scope
+abbrev pub IsSought : CxxGraph → ℕ → CxxPath → Wanted → Found → Fault → List ℕ → Type 0
+IsSought graph scope path wanted finds fault word = IsSoughtFrom graph (first_region scope path.global) path wanted finds fault word
+
+-- 3.4.5: where the first part of a name is looked up that stands behind an object of a class: one before `::` in that class, and
+-- where it has no such member, where the name stands
+abbrev pub first_sought : CxxState → ClassId → CxxPath → Region
+first_sought at class path = first_behind at.graph at.here.scope class path.global path.parts
+
+-- 3.4.5: A part before `::` of a name that stands behind an object is looked up, at the place of the fault. The last part is
+-- looked up as a member.
+pub record IsSoughtBehind (before : CxxState) (ahead : Ahead) (finds : Found) (fault : Fault) (word : List ℕ) : Type 0 where
+  pub path : CxxPath
+  pub class : ClassId
+  pub at : CxxState
+  pub is_behind : IsBehindObject before ahead path class at
+  pub is_sought : IsSoughtFrom at.graph (first_sought at class path) path before_colons finds fault word
 
 -- a name stands ahead, and a part of it is looked up where the reader stands
 pub record IsNamed (wanted : Wanted) (finds : Found) (at : CxxState) (ahead : Ahead) (fault : Fault) (word : List ℕ) : Type 0 where
   pub begins : begins_name ahead ≡ true
   pub whole : is_whole_name ahead ≡ true
   pub is_sought : IsSought at.graph at.here.scope (path_ahead ahead) wanted finds fault word
+
+-- 7.3.3, 10.2: The word `using` is ahead, and behind it a name, of which the last part is looked up as a member of the class that
+-- its qualifiers mean where the reader stands, at the place of the fault.
+pub record IsSoughtBrought (at : CxxState) (ahead : Ahead) (finds : MemberFound) (fault : Fault) (word : List ℕ) : Type 0 where
+  pub brings : is_keyword keyword.USING (kind_ahead ahead) ≡ true
+  pub begins : begins_name (behind ahead) ≡ true
+  pub whole : is_whole_name (behind ahead) ≡ true
+  pub within : ClassId
+  pub qualifies : member_region_of at.graph at.here.scope (path_ahead (behind ahead)) ≡ Ok (region.Class within)
+  pub spelled_so : (selected_part ahead).word ≡ word
+  pub is_at : (selected_part ahead).place ≡ fault.place
+  pub finds_so : member at.graph any_name within (spelled word) ≡ Ok finds
 
 -- 3.4: a lookup that finds nothing: among the members of a class it is of that class (3.4.3.1)
 abbrev pub nothing_in : Region → Found
@@ -299,14 +350,23 @@ pub record IsUnknownCall (before : CxxState) (ahead : Ahead) (wanted : Wanted) (
   pub by_types : called_by_types call ≡ []
 
 -- 3.4: a part of a name that is not declared: of a name in an expression or a using-declaration, of a type behind `enum`
--- (3.4.4), of a namespace in an alias or a directive (3.4.6), or of a called name; any of them may stand before `::` (3.4.3);
--- or a name that is no member of an object's class (5.2.5); or that of a member that is called and has no value once the
--- arguments are read (5.2.2), which is told without its word
+-- (3.4.4), of a class that is defined by a name with qualifiers (clause 9), of a namespace in an alias or a directive (3.4.6), or
+-- of a called name; any of them may stand before `::` (3.4.3); or a name that is no member of an object's class, or of the class
+-- that its qualifiers mean (5.2.5); or that of a member that is called and has no value once the arguments are read (5.2.2),
+-- which is told without its word; or a part before `::` of a name behind an object (3.4.5); or a name that is no member of the
+-- class that its qualifiers mean in a using-declaration of a class (7.3.3)
 pub data IsUnknown (at : CxxState) (ahead : Ahead) (fault : Fault) (word : List ℕ) : Type 0 where
   unknown_name : (wanted : Wanted) (finds : Found) (is : IsNamed wanted finds at ahead fault word) → finds ≡ nothing_in is.is_sought.where_ → IsUnknown at ahead fault word
   unknown_call : (wanted : Wanted) → IsUnknownCall at ahead wanted fault word → IsUnknown at ahead fault word
   unknown_member : IsSoughtMember at ahead member_found.Empty fault word → IsUnknown at ahead fault word
   unknown_called : (finds : MemberFound) (name : List ℕ) (is : IsSoughtCalled at ahead finds fault name) → HasNoValue (declared_then is.is) finds → word ≡ [] → IsUnknown at ahead fault word
+  unknown_qualifier : (finds : Found) (is : IsSoughtBehind at ahead finds fault word) → finds ≡ nothing_in is.is_sought.where_ → IsUnknown at ahead fault word
+  unknown_brought : IsSoughtBrought at ahead member_found.Empty fault word → IsUnknown at ahead fault word
+
+-- a scope from which names are looked up outward
+abbrev pub IsOutward : Region → Type 0
+IsOutward (region.Outward scope) = Unit {0}
+IsOutward _ = ⊥
 
 -- 10.2: no member of a class is found, of its own or of its bases
 abbrev pub IsNoMember : CxxGraph → Wanted → ClassId → CxxName → Type 0
@@ -333,11 +393,18 @@ IsNotThere graph wanted (region.Outward scope) name = IsNotAround graph wanted s
 IsNotThere graph wanted (region.Inside space) name = IsNotInside graph wanted space name
 IsNotThere graph wanted (region.Class class) name = IsNoMember graph wanted class name
 
+-- 3.4.5: where a part before `::` is looked up behind an object, and no such member of its class is found before that
+pub record IsNotBehind (graph : CxxGraph) (class : ClassId) (where_ : Region) (name : CxxName) : Type 0 where
+  pub there : IsNotThere graph before_colons where_ name
+  pub of_object : IsOutward where_ → IsNoMember graph before_colons class name
+
 abbrev pub IsNowhere : {at : CxxState} {ahead : Ahead} {fault : Fault} {word : List ℕ} → IsUnknown at ahead fault word → Type 0
 IsNowhere {at = at} {word = word} (unknown_name wanted finds is nothing) = IsNotThere at.graph wanted is.is_sought.where_ (spelled word)
 IsNowhere {word = word} (unknown_call wanted is) = IsNotThere is.call.at.graph wanted is.is_sought.where_ (spelled word)
 IsNowhere (unknown_member is) = Unit {0}
 IsNowhere (unknown_called finds name is none no_word) = Unit {0}
+IsNowhere {word = word} (unknown_qualifier finds is none) = IsNotBehind is.at.graph is.class is.is_sought.where_ (spelled word)
+IsNowhere (unknown_brought is) = Unit {0}
 
 -- 3.4: two different declarations, no overloads, that are found, and their places in the evidence
 pub record AreTwo (graph : CxxGraph) (one two : FactId) (fault : Fault) : Type 0 where
@@ -372,10 +439,16 @@ pub data IsTwofold (at : CxxState) (ahead : Ahead) (fault : Fault) (word : List 
   twofold_name : (wanted : Wanted) (one two : FactId) → IsNamed wanted (sought.Ambiguous one two) at ahead fault word → AreTwo at.graph one two fault → IsTwofold at ahead fault word
   -- 3.4.1, 3.4.3.1, 10.2: two members of a class whose scope is one of those round the name, or that its qualifiers mean
   twofold_inherited : (wanted : Wanted) (class : ClassId) (one two : Hit) → IsNamed wanted (sought.Member class (member_found.Ambiguous one two)) at ahead fault word → AreApart at.graph wanted (spelled word) class one two → AreShown at.graph one two fault → IsTwofold at ahead fault word
-  -- 5.2.5, 10.2: two members of an object's class
-  twofold_member : (one two : Hit) (is : IsSoughtMember at ahead (member_found.Ambiguous one two) fault word) → AreApart is.at.graph any_name (spelled word) (record { 0 = is.class }) one two → AreShown is.at.graph one two fault → IsTwofold at ahead fault word
+  -- 5.2.5, 10.2: two members of an object's class, or of the class that qualifiers mean behind it
+  twofold_member : (one two : Hit) (is : IsSoughtMember at ahead (member_found.Ambiguous one two) fault word) → AreApart is.at.graph any_name (spelled word) is.within one two → AreShown is.at.graph one two fault → IsTwofold at ahead fault word
   -- 5.2.2: the same where such a member is called, once the arguments are read
-  twofold_called : (one two : Hit) (is : IsSoughtCalled at ahead (member_found.Ambiguous one two) fault word) → AreApart (declared_then is.is) any_name (spelled word) (record { 0 = is.class }) one two → AreShown (declared_then is.is) one two fault → IsTwofold at ahead fault word
+  twofold_called : (one two : Hit) (is : IsSoughtCalled at ahead (member_found.Ambiguous one two) fault word) → AreApart (declared_then is.is) any_name (spelled word) is.within one two → AreShown (declared_then is.is) one two fault → IsTwofold at ahead fault word
+  -- 3.4.5: a part before `::` of a name behind an object
+  twofold_qualifier : (one two : FactId) (is : IsSoughtBehind at ahead (sought.Ambiguous one two) fault word) → AreTwo is.at.graph one two fault → IsTwofold at ahead fault word
+  -- 3.4.5, 10.2: the same, of two members of a class
+  twofold_qualifier_inherited : (class : ClassId) (one two : Hit) (is : IsSoughtBehind at ahead (sought.Member class (member_found.Ambiguous one two)) fault word) → AreApart is.at.graph before_colons (spelled word) class one two → AreShown is.at.graph one two fault → IsTwofold at ahead fault word
+  -- 7.3.3, 10.2: two members of the class that qualifiers mean in a using-declaration of a class
+  twofold_brought : (one two : Hit) (is : IsSoughtBrought at ahead (member_found.Ambiguous one two) fault word) → AreApart at.graph any_name (spelled word) is.within one two → AreShown at.graph one two fault → IsTwofold at ahead fault word
 
 -- ---- the fault of a unit
 

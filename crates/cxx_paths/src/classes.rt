@@ -3,6 +3,7 @@
 ghost use Rattle.std.specs.Prelude.{◌≡◌, ◌<◌, length, option_map};
 ghost use Rattle.cxx_model.specs.Facts.Declarations.{declares_at, graph_at};
 ghost use Rattle.cxx_model.specs.Facts.Fitted.{Fitted, IsEntityBelow};
+ghost use Rattle.cxx_model.specs.Facts.Graph.{IsClassNumberInRange};
 ghost use Rattle.cxx_model.specs.Types.Numbers.{type_at};
 ghost use Rattle.cxx_paths.specs.Asked.{class_number};
 ghost use Rattle.cxx_reading.specs.Paths as definition;
@@ -64,13 +65,24 @@ fn first_meant(graph: &Graph, types: &TypeTable, numbers: &[FactId]) -> Option<C
     None
 }
 
-/// The class that the first of some declarations names, where one may stand.
+// The same of the state.
 #[tactic(auto, unfolding(cxx_tree::specs::Held::meaning))]
+fn first_class(state: &State, numbers: &[FactId]) -> Option<ClassId>
+    ensures is { option_map class_number result ≡ definition.first_meant (numbered_at (meaning state.now).graph (fact_numbers numbers.now)) }
+    ensures there { IsClassNumberInRange (state.now).graph result }
+{
+    let graph = state.graph();
+    graph.in_range();
+    first_meant(graph, state.types(), numbers)
+}
+
+/// The class that the first of some declarations names, where one may stand.
 pub(crate) fn class_if(state: &State, classes: bool, numbers: &[FactId]) -> Option<ClassId>
-    ensures { option_map class_number result ≡ definition.class_if classes (definition.first_meant (numbered_at (meaning state.now).graph (fact_numbers numbers.now))) }
+    ensures is { option_map class_number result ≡ definition.class_if classes (definition.first_meant (numbered_at (meaning state.now).graph (fact_numbers numbers.now))) }
+    ensures there { IsClassNumberInRange (state.now).graph result }
 {
     if classes {
-        return first_meant(state.graph(), state.types(), numbers);
+        return first_class(state, numbers);
     }
     None
 }

@@ -13,7 +13,7 @@ ghost use Rattle.cxx_reading.specs.Paths as definition;
 ghost use Rattle.cxx_reading.specs.Paths.{ambiguous_at, place_of_fact, wrong_kind_at};
 ghost use Rattle.cxx_reading.specs.Seen.{fact_numbers, numbered_at, place_of_first};
 ghost use Rattle.cxx_reading.specs.Trees.{last_part};
-ghost use Rattle.cxx_tree.specs.Arena.{path_at, path_part_at};
+ghost use Rattle.cxx_tree.specs.Arena.{path_at, path_part_at, path_parts_at};
 ghost use Rattle.cxx_tree.specs.Held.{meaning};
 
 use crate::last::{last_place, last_word};
@@ -219,6 +219,19 @@ pub(crate) fn not_held(state: &State, part: &PathPart, numbers: &[FactId]) -> St
         state,
         part.place,
         part.word.as_slice(),
+        place_among(state, numbers),
+    )
+}
+
+/// The same of the last of some parts.
+#[tactic(auto, using(crate::proofs::Places::not_held))]
+pub(crate) fn last_not_held(state: &State, parts: &[PathPart], numbers: &[FactId]) -> Stop
+    ensures { IsStop (definition.not_held (last_part (path_parts_at parts.now)) (numbered_at (meaning state.now).graph (fact_numbers numbers.now))) result }
+{
+    not_wanted(
+        state,
+        last_place(parts),
+        last_word(parts),
         place_among(state, numbers),
     )
 }

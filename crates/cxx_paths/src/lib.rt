@@ -14,6 +14,8 @@ pub use faults::{
     place_of, unambiguous, unambiguous_name, undeclared, undeclared_name, wrong_kind, wrong_name,
 };
 pub use last::{last_place, last_word};
-pub use regions::{region_here, scope_of, space_region_here, using_region_here};
+pub use regions::{
+    member_region_here, region_behind, region_here, scope_of, space_region_here, using_region_here,
+};
 pub use seeking::{found_in, found_of, name_sought, set_in, sought_in};
 pub use spaces::space_among;

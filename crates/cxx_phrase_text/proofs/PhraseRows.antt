@@ -69,7 +69,11 @@ through parts = tree_of (label 40 []) parts
 
 -- 5.2.5
 abbrev member_of : ℕ → ℕ → CxxTree → CxxTree
-member_of production target object = tree_of (of_type (class_type 0) (by_name (record (label production (codes "(")) { target = Some target }))) (object ∷ [])
+member_of production target object = tree_of (by_name (record (label production (codes "(")) { target = Some target })) (object ∷ [])
+
+-- 3.4.5
+abbrev behind_class : CxxType → CxxTree → CxxTree
+behind_class class tree = record { label = of_type class tree.label; children = tree.children }
 
 -- a call of a member of an object, and of one of what a pointer points to
 abbrev member_call : ℕ → ℕ → CxxTree → List CxxTree → CxxTree
@@ -201,6 +205,12 @@ sum_of_static_functions = refl
 -- 5.2.5
 function_of_an_object : text (member_call 0 2 a (literal (codes "1") ∷ [])) ≡ codes "a__1.f__3(1)\n"
 function_of_an_object = refl
+
+function_behind_a_class : text (tree_of (called 0 2) (behind_class (class_type 0) (member_of 42 2 a) ∷ b ∷ [])) ≡ codes "a__1.C::f__3(b__2)\n"
+function_behind_a_class = refl
+
+member_behind_a_class : text (subscript (behind_class (class_type 0) (member_of 42 1 (call 0 2 []))) a) ≡ codes "f__3().C::b__2[a__1]\n"
+member_behind_a_class = refl
 
 function_of_what_is_pointed_to : text (arrow_call 0 2 a (literal (codes "1") ∷ [])) ≡ codes "(*a__1).f__3(1)\n"
 unfolding pointed_words

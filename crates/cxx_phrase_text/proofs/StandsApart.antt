@@ -10,7 +10,7 @@ use Rattle.cxx_phrase_text.specs.declared.form.Form.{Form}
 use Rattle.cxx_phrase_text.specs.declared.form.Form.TheVariants as form
 use Rattle.cxx_phrase_text.specs.Apart.{BeginsApart, EndsApart, StandsApart}
 use Rattle.cxx_phrase_text.specs.Forms.{form_of}
-use Rattle.cxx_phrase_text.specs.Phrases.{arguments, braced, call_words, callee_words, cast_keyword, cast_words, dot_word, elements, infix_standing, infix_word, is_braced, is_by_name, is_class, is_one_string, is_primary, last_part, member_words, named_words, operand, part, phrase_as, phrase_of, phrases, Phrase, pointed_words, prefix_word, scope_words, spells_comma, subscript_words}
+use Rattle.cxx_phrase_text.specs.Phrases.{arguments, braced, call_words, callee_words, cast_keyword, cast_words, dot_word, elements, has_class, infix_standing, infix_word, is_braced, is_by_name, is_class, is_one_string, is_primary, last_part, member_words, named_words, operand, part, phrase_as, phrase_of, phrases, Phrase, pointed_words, prefix_word, scope_words, spells_comma, subscript_words}
 
 -- ---- runs of words
 
@@ -94,11 +94,13 @@ subscript_apart parts all =
       ends = ends_append array open_bracket_word (index ++ close_bracket_word ∷ []) (ends_append (open_bracket_word ∷ index) close_bracket_word [] refl);
     }
 
-member_apart : (name : ℕ → List ℕ) (target : Option ℕ) (object : List Word) → StandsApart object → StandsApart (member_words name target object)
-member_apart name target object apart = record {
-  begins = begins_append object (dot_word ∷ name_word (name (target_or target)) ∷ []) apart.begins refl;
-  ends = ends_append object dot_word (name_word (name (target_or target)) ∷ []) refl;
-}
+member_apart : (tags : Tags) (name : ℕ → List ℕ) (of : Option CxxType) (target : Option ℕ) (object : List Word) → StandsApart object → StandsApart (member_words tags name of target object)
+member_apart tags name of target object apart =
+    let scope : List Word = scope_words tags (type_or_void of) (has_class of) in
+    record {
+      begins = begins_append object (dot_word ∷ named_words tags name of (target_or target)) apart.begins refl;
+      ends = ends_append object dot_word (named_words tags name of (target_or target)) (ends_append (dot_word ∷ scope) (name_word (name (target_or target))) [] refl);
+    }
 
 pointed_apart : (parts : List Phrase) → StandsApart (pointed_words parts)
 unfolding pointed_words
@@ -124,8 +126,8 @@ form_apart form.Name tags name label is_text parts all = λ is. named_apart tags
 form_apart form.Parenthesis tags name label is_text parts all = part_apart parts 0 all
 form_apart form.Call tags name label is_text parts all = λ is. call_apart tags name label.of (target_or label.target) (is_by_name label.path) parts all
 form_apart form.Zero tags name label is_text parts all = λ is. cast_apart tags (codes "static_cast") (type_or_void label.of) (keyword_word (codes "0") ∷ [])
-form_apart form.Member tags name label is_text parts all = λ is. member_apart name label.target (operand (part parts 0)) (operand_apart (part parts 0) (part_apart parts 0 all))
-form_apart form.Arrow tags name label is_text parts all = λ is. member_apart name label.target (pointed_words parts) (pointed_apart parts)
+form_apart form.Member tags name label is_text parts all = λ is. member_apart tags name label.of label.target (operand (part parts 0)) (operand_apart (part parts 0) (part_apart parts 0 all))
+form_apart form.Arrow tags name label is_text parts all = λ is. member_apart tags name label.of label.target (pointed_words parts) (pointed_apart parts)
 form_apart form.Subscript tags name label is_text parts all = λ is. subscript_apart parts all
 form_apart form.Postfix tags name label is_text parts all = λ is. absurd (not_true is)
 form_apart form.Prefix tags name label is_text parts all = λ is. absurd (not_true is)

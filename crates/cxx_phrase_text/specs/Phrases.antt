@@ -84,7 +84,7 @@ abbrev pub scope_words : Tags → CxxType → Bool → List Word
 scope_words tags of true = declared tags no_cv of [] ++ scope_word ∷ []
 scope_words tags of false = []
 
--- 9.4: a static member stands behind its class
+-- 3.4.3.1, 9.4: a static member stands behind its class, and so does what is named behind a class
 abbrev pub named_words : Tags → (ℕ → List ℕ) → Option CxxType → ℕ → List Word
 named_words tags name of number = scope_words tags (type_or_void of) (has_class of) ++ name_word (name number) ∷ []
 
@@ -150,8 +150,9 @@ subscript_words parts = operand (part parts 0) ++ (open_bracket_word ∷ ((part 
 abbrev pub dot_word : Word
 dot_word = record { role = role.Joins; spelling = codes "." }
 
-abbrev pub member_words : (ℕ → List ℕ) → Option ℕ → List Word → List Word
-member_words name target object = object ++ (dot_word ∷ name_word (name (target_or target)) ∷ [])
+-- with the class that qualifies the member, where there is one (3.4.5)
+abbrev pub member_words : Tags → (ℕ → List ℕ) → Option CxxType → Option ℕ → List Word → List Word
+member_words tags name of target object = object ++ (dot_word ∷ named_words tags name of (target_or target))
 
 -- what a pointer points to, as an object
 unfoldable pub pointed_words : List Phrase → List Word
@@ -223,8 +224,8 @@ phrase_as form.Name tags name label is_one_string parts = primary (named_words t
 phrase_as form.Parenthesis tags name label is_one_string parts = part parts 0
 phrase_as form.Call tags name label is_one_string parts = primary (call_words tags name label.of (target_or label.target) (is_by_name label.path) parts)
 phrase_as form.Zero tags name label is_one_string parts = primary (zero_words tags (type_or_void label.of))
-phrase_as form.Member tags name label is_one_string parts = primary (member_words name label.target (operand (part parts 0)))
-phrase_as form.Arrow tags name label is_one_string parts = primary (member_words name label.target (pointed_words parts))
+phrase_as form.Member tags name label is_one_string parts = primary (member_words tags name label.of label.target (operand (part parts 0)))
+phrase_as form.Arrow tags name label is_one_string parts = primary (member_words tags name label.of label.target (pointed_words parts))
 phrase_as form.Subscript tags name label is_one_string parts = primary (subscript_words parts)
 phrase_as form.Postfix tags name label is_one_string parts = operation (operand (part parts 0) ++ postfix_word label.spelling ∷ [])
 phrase_as form.Prefix tags name label is_one_string parts = operation (prefix_word label.spelling ∷ operand (part parts 0))

@@ -1,3 +1,4 @@
 pub mod Kept
 pub mod Carried
 pub mod Binary
+pub mod Closing

@@ -1,9 +1,10 @@
 -- The trees of expressions as they are read, before it is asked what they mean.
-use Rattle.std.specs.Prelude.{ℕ, Bool, true, false, List, [], ◌∷◌, ◌++◌, Option, Some, codes}
+use Rattle.std.specs.Prelude.{ℕ, Bool, true, false, ◌&&◌, if◌then◌else◌, List, [], ◌∷◌, ◌++◌, Option, Some, codes}
 use Rattle.cxx_model.specs.declared.place.Place.{Place}
 use Rattle.cxx_model.specs.declared.punct.TheConstants as punct
 use Rattle.cxx_model.specs.declared.token.TokenKind.{TokenKind}
 use Rattle.cxx_model.specs.declared.token.TokenKind.TheVariants.{Text}
+use Rattle.cxx_model.specs.Text.Lexemes.{Lexeme}
 use Rattle.cxx_model.specs.Types.Trees.{CxxType}
 use Rattle.cxx_phrases.specs.Productions as phrase
 use Rattle.cxx_reading.specs.Labels.{label_from}
@@ -50,13 +51,27 @@ functional_tree of arguments from to = tree_of (record (label_from phrase.functi
 abbrev pub subscript_tree : Place → CxxTree → CxxTree → Ahead → Ahead → CxxTree
 subscript_tree place object index from to = tree_of (record (label_from phrase.subscript [] from to) { place = place }) (object ∷ index ∷ [])
 
--- 5.2.2: the spelling of a name behind which the bracket of arguments stands, or does not
-abbrev pub bracket_word : Bool → List ℕ
-bracket_word true = codes "("
-bracket_word false = []
+-- 5.1: the spelling of a name that may be called behind brackets which close, or may not
+abbrev pub closed_word : Bool → List ℕ
+closed_word true = codes ")"
+closed_word false = []
+
+-- 5.2.2: the spelling of a name by the brackets that stand behind it, that of arguments, or one that closes before others
+abbrev pub bracket_word : Bool → Bool → List ℕ
+bracket_word true closes = codes "("
+bracket_word false closes = closed_word closes
+
+-- 13.3.1.1.1: whether the first of some tokens that closes no bracket opens one
+abbrev pub opens_behind : List Lexeme → Bool
+opens_behind [] = false
+opens_behind (token ∷ tokens) = if is_punct punct.RIGHT_PARENTHESIS token.kind then opens_behind tokens else is_punct punct.LEFT_PARENTHESIS token.kind
+
+-- whether a bracket closes and one opens behind all that close: then what stands before them may be called
+abbrev pub may_be_called : Ahead → Bool
+may_be_called to = is_punct punct.RIGHT_PARENTHESIS (kind_ahead to) && opens_behind to.tokens
 
 abbrev pub called_word : Ahead → List ℕ
-called_word to = bracket_word (is_punct punct.LEFT_PARENTHESIS (kind_ahead to))
+called_word to = bracket_word (is_punct punct.LEFT_PARENTHESIS (kind_ahead to)) (may_be_called to)
 
 -- 5.2.5: a member of an object, or of what is pointed to; its place is that of the operator, and the spelling tells whether it
 -- is called

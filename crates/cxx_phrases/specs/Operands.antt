@@ -1,5 +1,5 @@
 -- Postfix and unary expressions and casts (5.2 to 5.4): the operands of binary operators.
-use Rattle.std.specs.Prelude.{ℕ, Bool, true, false, not, ◌&&◌, if◌then◌else◌, List, [], ◌∷◌, Option, Some, None, codes}
+use Rattle.std.specs.Prelude.{ℕ, Bool, true, false, if◌then◌else◌, List, [], ◌∷◌, Option, Some, None, codes}
 use Rattle.cxx_model.specs.declared.fault.FaultText.TheVariants as says
 use Rattle.cxx_model.specs.declared.fault.LeftOut.TheVariants as form
 use Rattle.cxx_model.specs.declared.keyword.TheConstants as keyword
@@ -19,7 +19,7 @@ use Rattle.cxx_phrases.specs.Primary.{called_at, parenthesis_at, primary_at}
 use Rattle.cxx_phrases.specs.Productions as phrase
 use Rattle.cxx_reading.specs.Reads.{Reads, Ahead, Turn, More, Done, ◌>>=◌, got, give, ask, fault_at, looked, taken, tokens, kind_ahead, place_ahead, count_ahead, repeat}
 use Rattle.cxx_reading.specs.Shapes.{look, past}
-use Rattle.cxx_reading.specs.Tokens.{is_punct, is_keyword, is_plain_name, begins_name, path_taken, punct_taken, not_built}
+use Rattle.cxx_reading.specs.Tokens.{is_punct, is_keyword, path_taken, punct_taken}
 use Rattle.cxx_reading.specs.Trees.{CxxPath, CxxTree}
 
 -- ---- postfix expressions (5.2)
@@ -51,12 +51,11 @@ step_step asks from operand = do
   tree ← ask (asks.whole (step_tree (operator_ahead at) place operand from to))
   give (More tree)
 
--- 3.4.3, 12.4: what names the member: a name with qualifiers is not read yet, and the call of a destructor is left out
+-- 3.4.5, 12.4: what names the member, with its qualifiers; the call of a destructor is left out
 unfoldable pub selected_name : {S : Type 0} → Reads S CxxPath
 selected_name state ahead =
-    if is_punct punct.TILDE (kind_ahead ahead) then fault_at (place_ahead ahead) (says.LeftOut form.DestructorCall) state ahead else (
-    if begins_name ahead && not (is_plain_name ahead) then not_built state ahead else
-    path_taken state ahead)
+    if is_punct punct.TILDE (kind_ahead ahead) then fault_at (place_ahead ahead) (says.LeftOut form.DestructorCall) state ahead else
+    path_taken state ahead
 
 -- 5.2.5: from `.` or `->` on
 unfoldable pub selected_step : {S : Type 0} → Phrases S → ℕ → Ahead → CxxTree → Reads S (Turn CxxTree CxxTree)

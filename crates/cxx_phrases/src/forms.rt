@@ -188,12 +188,33 @@ pub(crate) fn subscript_asked<P: Phrases>(
     phrases.whole(state, node)
 }
 
-// What a name is spelled with behind which the bracket of arguments stands (5.2.2).
+// Whether the first token that closes no bracket opens one (13.3.1.1.1).
+#[tactic(auto, using(crate::proofs::Closing::passed, crate::proofs::Closing::stopped, crate::proofs::Closing::shorter))]
+fn opens_behind(to: &Cursor<'_>) -> bool
+    ensures { result ≡ form.opens_behind to.now.tokens }
+{
+    let mut ahead = to.mark();
+    while is_punct(punct::RIGHT_PARENTHESIS, ahead.kind()) {
+        ahead.advance();
+    }
+    is_punct(punct::LEFT_PARENTHESIS, ahead.kind())
+}
+
+// Whether a bracket closes and one opens behind all that close.
+fn may_be_called(to: &Cursor<'_>) -> bool
+    ensures { result ≡ form.may_be_called to.now }
+{
+    is_punct(punct::RIGHT_PARENTHESIS, to.kind()) && opens_behind(to)
+}
+
+// What a name is spelled with, by the brackets that stand behind it (5.2.2).
 fn called_word(to: &Cursor<'_>) -> &'static [u8]
     ensures { result.now ≡ form.called_word to.now }
 {
     if is_punct(punct::LEFT_PARENTHESIS, to.kind()) {
         b"("
+    } else if may_be_called(to) {
+        b")"
     } else {
         b""
     }

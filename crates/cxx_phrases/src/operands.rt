@@ -85,7 +85,7 @@ fn step_step<P: Phrases>(
     Ok(Turn::More(number))
 }
 
-// What names a member: a name with qualifiers is not read yet, and the call of a destructor is left out (3.4.3, 12.4).
+// What names a member, with its qualifiers; the call of a destructor is left out (3.4.5, 12.4).
 #[tactic(auto, using(cxx_cursor::proofs::Kept::later_refl), unfolding(crate::specs::Operands::selected_name))]
 fn selected_name(state: &State, cursor: &mut Cursor<'_>) -> Result<Path, Stop>
     ensures { IsRead (λ held. path_at) AnyKnown state.now state.now cursor.new result (definition.selected_name (meaning state.now) cursor.old) }
@@ -93,9 +93,6 @@ fn selected_name(state: &State, cursor: &mut Cursor<'_>) -> Result<Path, Stop>
     if is_punct(punct::TILDE, cursor.kind()) {
         let text = FaultText::LeftOut(LeftOut::DestructorCall);
         return Err(Stop::Fault(cursor.faulty(text)?));
-    }
-    if cursor.begins_name() && !cursor.is_plain_name() {
-        return Err(Stop::Fault(cursor.not_built()?));
     }
     cursor.path_taken(state)
 }

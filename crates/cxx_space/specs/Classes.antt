@@ -1,6 +1,6 @@
 -- The definitions of classes, in the code: what their values stand for, given the trees and types of a state, and what is left
 -- of a definition behind its beginning.
-use Rattle.std.specs.Prelude.{ℕ, ◌≡◌, ◌<◌, ◌++◌, Bool, false, length, List, Option, None, Some, option_map}
+use Rattle.std.specs.Prelude.{ℕ, ◌≡◌, ◌<◌, ◌++◌, Bool, false, length, List, Option, None, Some}
 use Rattle.cxx_model.specs.declared.types.TreeId.{TreeId}
 use Rattle.cxx_model.specs.declared.types.TypeId.{TypeId}
 use Rattle.cxx_model.specs.Text.Lexemes.{Lexeme}
@@ -13,19 +13,21 @@ use Rattle.cxx_reading.specs.Reads as reads
 use Rattle.cxx_reading.specs.Reads.{Reads, Ahead, ◌>>=◌, give, ask, looked, taken, count_ahead, repeat}
 use Rattle.cxx_reading.specs.Specifiers.{specifiers_from}
 use Rattle.cxx_reading.specs.State.{CxxState}
+use Rattle.cxx_reading.specs.Tokens.{path_taken}
 use Rattle.cxx_reading.specs.Trees.{CxxTree, in_turn}
 use Rattle.cxx_reading.specs.Units.{Said, declarator_tree, give_trees, name_in, no_declarators}
 use Rattle.cxx_phrases.specs.Levels.{assignment_at}
 use Rattle.cxx_answers.specs.Defaults.{begin_later, end_later}
 use Rattle.cxx_cursor.specs.declared.declarator.Declarator as declarator
+use Rattle.cxx_cursor.specs.declared.name.NameToken.{NameToken}
 use Rattle.cxx_cursor.specs.declared.turn.Turn.{Turn}
-use Rattle.cxx_cursor.specs.Views.{AreTreesHeld, IsDeclarator, IsTurn, declarator_of, lexeme_at, trees_held, turn_at}
+use Rattle.cxx_cursor.specs.Views.{AreTreesHeld, IsDeclarator, IsTurn, declarator_of, name_of_option, trees_held, turn_at}
 use Rattle.cxx_declare.specs.declared.class_definitions.MemberWords.{MemberWords}
 use Rattle.cxx_declare.specs.ClassDefinitions.{declare_member, end_class}
 use Rattle.cxx_declare.specs.Outside.{stand_in}
 use Rattle.cxx_language.specs.Asked.{asked, inner_at, phrases_at}
 use Rattle.cxx_language.specs.Classes as definition
-use Rattle.cxx_language.specs.Classes.{class_at, class_tree, class_whole, declared_behind, is_virtual_member, list_at, member_step, no_anonymous_union, pure_ahead, type_of_member, value_or_pure, whole_member, with_class, with_parts, words_of_member}
+use Rattle.cxx_language.specs.Classes.{class_at, class_tree, class_whole, declared_behind, is_virtual_member, list_at, member_step, name_of_path, no_anonymous_union, pure_ahead, type_of_member, value_or_pure, whole_member, with_class, with_parts, words_of_member}
 use Rattle.cxx_language.specs.Later.{Declares, all_read}
 use Rattle.cxx_later.specs.Defaults.{LaterDefault, defaults_in, defaults_kept}
 use Rattle.cxx_later.specs.Passing.{ends_where}
@@ -41,7 +43,14 @@ use Rattle.cxx_units.specs.Said.{said_of}
 -- ---- values
 
 abbrev pub head_of : Head → definition.Head
-head_of head = record { is_union = head.is_union; access = head.access; name = option_map lexeme_at head.name; place = head.place }
+head_of head = record { is_union = head.is_union; access = head.access; name = name_of_option head.name; place = head.place }
+
+abbrev pub head_held : Held → Head → definition.Head
+head_held held head = head_of head
+
+-- the name of a class, where it has one
+abbrev pub optional_name : Held → Option NameToken → Option Lexeme
+optional_name held name = name_of_option name
 
 abbrev pub begun_number : Held → Begun → ℕ
 begun_number held begun = begun.class.0
@@ -62,6 +71,10 @@ members_turn held = turn_at (members_of held) (trees_held held)
 
 abbrev pub IsMembersTurn : Held → Turn Members (List TreeId) → Type 0
 IsMembersTurn held = IsTurn (AreMembers held) (AreTreesHeld held)
+
+-- the name of a class with qualifiers, where the reader stands in what declares it then
+abbrev pub qualified_name : Reads CxxState (Option Lexeme)
+qualified_name = path_taken >>= name_of_path
 
 -- ---- a member
 
@@ -108,12 +121,12 @@ abbrev pub class_left : definition.Head → ℕ → List CxxTree → declarators
 class_left head n members so_far from = defaults_kept None None >>= λ left. looked >>= λ to. give (with_class so_far n (class_tree head n (members ++ left) from to))
 
 -- behind the list of its members
-abbrev pub class_ended : definition.Head → ℕ → List CxxTree → declarators.Specifiers → Ahead → Reads CxxState declarators.Specifiers
-class_ended head n members so_far from = ask (end_class n head.place) >>= λ ended. no_anonymous_union head >>= λ whole. class_left head n members so_far from
+abbrev pub class_ended : definition.Head → ℕ → List CxxTree → declarators.Specifiers → ℕ → Ahead → Reads CxxState declarators.Specifiers
+class_ended head n members so_far outside from = ask (end_class n head.place) >>= λ ended. ask (stand_in outside) >>= λ outer. no_anonymous_union head >>= λ whole. class_left head n members so_far from
 
 -- from the `{` on, where it has begun and has these bases
-abbrev pub class_opened : ℕ → definition.Head → ℕ → List CxxTree → declarators.Specifiers → Ahead → Reads CxxState declarators.Specifiers
-class_opened room head n bases so_far from = taken >>= λ opened. list_at room head bases >>= λ members. class_ended head n members so_far from
+abbrev pub class_opened : ℕ → definition.Head → ℕ → List CxxTree → declarators.Specifiers → ℕ → Ahead → Reads CxxState declarators.Specifiers
+class_opened room head n bases so_far outside from = taken >>= λ opened. list_at room head bases >>= λ members. class_ended head n members so_far outside from
 
 -- a class, and the specifiers behind it, of a member
 abbrev pub class_then : ℕ → declarators.Specifiers → Reads CxxState declarators.Specifiers

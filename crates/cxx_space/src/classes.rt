@@ -1,28 +1,27 @@
 //! Definitions of classes (clause 9): their heads, and the lists of their members up to their ends.
 
-ghost use Rattle.std.specs.Prelude.{◌≡◌, ◌<◌, ◌++◌, ◌∷◌, [], Ok, Some, length, option_map, true, IfOk};
+ghost use Rattle.std.specs.Prelude.{◌≡◌, ◌<◌, ◌++◌, ◌∷◌, [], Ok, Some, length, true, IfOk};
 ghost use Rattle.cxx_language.specs.Classes as definition;
-ghost use Rattle.cxx_model.specs.declared.keyword.TheConstants as key;
-ghost use Rattle.cxx_reading.specs.Reads.{behind, kind_ahead, place_ahead};
-ghost use Rattle.cxx_reading.specs.Specifiers.{path_of, path_of_option, place_or as place_or_of};
-ghost use Rattle.cxx_reading.specs.Tokens as token;
-ghost use Rattle.cxx_space.specs.Classes.{AreMembers, IsBegun, IsMembersTurn, begun_number, class_ended, class_left, class_opened, class_then, head_of, members_of, members_turn, whole_then};
+ghost use Rattle.cxx_reading.specs.Syntax.{token_of};
+ghost use Rattle.cxx_reading.specs.Trees.{last_part};
+ghost use Rattle.cxx_space.specs.Classes.{AreMembers, IsBegun, IsMembersTurn, begun_number, class_ended, class_left, class_opened, class_then, head_held, head_of, members_of, members_turn, optional_name, qualified_name, whole_then};
 ghost use Rattle.cxx_cursor.specs.Asking.{AnyKnown, IsAsked, itself};
 ghost use Rattle.cxx_cursor.specs.Making.{GrowsTree};
 ghost use Rattle.cxx_cursor.specs.Reading.{IsRead};
-ghost use Rattle.cxx_cursor.specs.Views.{AreSpecifiers, AreTreesHeld, lexeme_at, specifiers_of, trees_held};
+ghost use Rattle.cxx_cursor.specs.Views.{AreSpecifiers, AreTreesHeld, name_at, name_of_option, specifiers_of, trees_held};
 ghost use Rattle.cxx_tree.specs.Answered.{IsClassKnown, class_number};
 ghost use Rattle.cxx_tree.specs.Arena.{path_at};
 ghost use Rattle.cxx_tree.specs.Held.{meaning};
 
 use crate::space::{Defines, Space};
 use cxx_cursor::{
-    Cursor, Specifiers, Spelled, Turn, is_keyword, is_name, is_punct, joined, no_specifiers_yet,
-    node_from, push,
+    Cursor, NameToken, Specifiers, Turn, is_keyword, is_name, is_punct, joined, last_part,
+    no_specifiers_yet, node_from, path_to_option, place_of, push,
 };
+use cxx_language::member_using_at;
 use cxx_later::defaults_kept;
 use cxx_model::{
-    Access, ClassId, FaultText, LeftOut, LimitKind, Listed, Path, PathPart, Place, Stop, Text,
+    Access, ClassId, FaultText, LeftOut, LimitKind, Listed, Path, Place, ScopeId, Stop, Text,
     TokenKind, TreeId, TreeIdList, TypeId, Word, keyword, punct,
 };
 use cxx_reading::SpecifierPlace;
@@ -35,12 +34,13 @@ use std::alloc::{AllocError, Global};
 const CLASS_DEFINITION: u8 = 10;
 
 /// The head of a class.
-#[derive(Clone, Copy)]
-pub(crate) struct Head<'a> {
+#[derive(Drop)]
+pub(crate) struct Head {
     pub is_union: bool,
     /// The access of members that no label stands before (11).
     pub access: Access,
-    pub name: Option<Spelled<'a>>,
+    /// The last part, where it has qualifiers.
+    pub name: Option<NameToken>,
     /// That of its name, or of its key where it has none.
     pub place: Place,
 }
@@ -72,58 +72,33 @@ fn key_access(kind: TokenKind) -> Access
 }
 
 // A name, taken if there is one.
-fn name_or_none<'a>(cursor: &mut Cursor<'a>) -> Option<Spelled<'a>>
-    ensures name { option_map lexeme_at result ≡ definition.name_ahead cursor.old }
-    ensures taken { cursor.new ≡ definition.behind_name cursor.old }
-{
-    if is_name(cursor.kind()) {
-        return Some(cursor.token());
-    }
-    None
-}
-
-fn place_or(place: Place, name: Option<Spelled<'_>>) -> Place
-    ensures { result ≡ place_or_of place (option_map lexeme_at name.entry) }
-{
-    match name {
-        Some(token) => token.place,
-        None => place,
-    }
-}
-
-// A key and a name, or a key alone, taken.
-fn head_at<'a>(cursor: &mut Cursor<'a>) -> Head<'a>
-    ensures is_union { result.is_union ≡ token.is_keyword key.UNION (kind_ahead cursor.old) }
-    ensures access { result.access ≡ definition.key_access (kind_ahead cursor.old) }
-    ensures name { option_map lexeme_at result.name ≡ definition.name_ahead (behind cursor.old) }
-    ensures place { result.place ≡ place_or_of (place_ahead cursor.old) (definition.name_ahead (behind cursor.old)) }
-    ensures taken { cursor.new ≡ definition.behind_name (behind cursor.old) }
-{
-    let is_union = is_keyword(keyword::UNION, cursor.kind());
-    let access = key_access(cursor.kind());
-    let place = cursor.place();
-    cursor.advance();
-    let name = name_or_none(cursor);
-    Head {
-        is_union,
-        access,
-        name,
-        place: place_or(place, name),
-    }
-}
-
-// A class whose name has qualifiers is not defined yet (9).
 #[tactic(auto, using(cxx_cursor::proofs::Kept::later_refl))]
-fn no_member_class(state: &State, cursor: &Cursor<'_>) -> Result<(), Stop>
-    ensures { IsRead itself AnyKnown state.now state.now cursor.now result (definition.no_member_class (meaning state.now) cursor.now) }
+fn name_or_none(state: &State, cursor: &mut Cursor<'_>) -> Result<Option<NameToken>, Stop>
+    ensures { IsRead optional_name AnyKnown state.now state.now cursor.new result (definition.name_or_none (meaning state.now) cursor.old) }
 {
     let _ = state;
-    let mut behind = cursor.mark();
-    behind.advance();
-    if behind.begins_name() && !behind.is_plain_name() {
-        return Err(Stop::Fault(cursor.not_built()?));
+    if is_name(cursor.kind()) {
+        return Ok(Some(cursor.kept()?));
     }
-    Ok(())
+    Ok(None)
+}
+
+// The token of the last part of a name.
+fn last_token(alloc: Global, path: &Path) -> Result<NameToken, AllocError>
+    ensures { IfOk result (λ token. name_at token ≡ token_of (last_part (path_at path.now).parts)) }
+{
+    match last_part(path.parts.as_slice()) {
+        Some(part) => Ok(NameToken {
+            kind: TokenKind::Name,
+            place: part.place,
+            spelling: Word::from_slice(alloc, part.word.as_slice())?,
+        }),
+        None => Ok(NameToken {
+            kind: TokenKind::Name,
+            place: Place { line: 0, column: 0 },
+            spelling: Listed::new(alloc),
+        }),
+    }
 }
 
 // The type of a class that begins.
@@ -179,36 +154,50 @@ fn access_step(
     }))
 }
 
-// With which words other members begin (7.3.3, clause 14).
+// A using-declaration (7.3.3).
+#[tactic(auto, using(cxx_cursor::proofs::Kept::trees_kept, cxx_cursor::proofs::Kept::trees_later, cxx_cursor::proofs::Kept::later_refl), unfolding(cxx_language::specs::Classes::using_step))]
+fn using_step<D: Defines>(
+    declares: &D,
+    state: &mut State,
+    cursor: &mut Cursor<'_>,
+    so_far: Members,
+) -> Result<Turn<Members, TreeIdList>, Stop>
+    requires { AreMembers state.old so_far }
+    ensures { IsRead members_turn IsMembersTurn state.old state.new cursor.new result (definition.using_step (members_of state.old so_far) (meaning state.old) cursor.old) }
+{
+    member_using_at(declares, state, cursor, so_far.access)?;
+    Ok(Turn::More(so_far))
+}
+
+// With which tokens other members begin (12.4, clause 14).
 fn begins_other(kind: TokenKind) -> bool
     ensures { result ≡ definition.begins_other kind }
 {
-    is_keyword(keyword::USING, kind)
-        || (is_keyword(keyword::TEMPLATE, kind) || is_punct(punct::TILDE, kind))
+    is_keyword(keyword::TEMPLATE, kind) || is_punct(punct::TILDE, kind)
 }
 
 // That name and a bracket.
-fn begins_with(name: Spelled<'_>, cursor: &Cursor<'_>) -> bool
-    ensures { result ≡ definition.begins_constructor (Some (lexeme_at name.entry)) cursor.now }
+fn begins_with(name: &NameToken, cursor: &Cursor<'_>) -> bool
+    ensures { result ≡ definition.begins_constructor (Some (name_at name.now)) cursor.now }
 {
     is_name(cursor.kind())
-        && (cursor.spelling() == name.spelling
+        && (cursor.spelling() == name.spelling.as_slice()
             && is_punct(punct::LEFT_PARENTHESIS, cursor.kind_behind()))
 }
 
 // The name of the class and a bracket (12.1).
-fn begins_constructor(head: &Head<'_>, cursor: &Cursor<'_>) -> bool
-    ensures { result ≡ definition.begins_constructor (option_map lexeme_at head.now.name) cursor.now }
+fn begins_constructor(head: &Head, cursor: &Cursor<'_>) -> bool
+    ensures { result ≡ definition.begins_constructor (name_of_option head.now.name) cursor.now }
 {
-    match head.name {
+    match &head.name {
         Some(name) => begins_with(name, cursor),
         None => false,
     }
 }
 
-// Constructors, destructors, using-declarations and templates of a class are not read yet.
-fn comes_later(head: &Head<'_>, cursor: &Cursor<'_>) -> bool
-    ensures { result ≡ definition.comes_later (option_map lexeme_at head.now.name) cursor.now }
+// Constructors, destructors and templates of a class are not read yet.
+fn comes_later(head: &Head, cursor: &Cursor<'_>) -> bool
+    ensures { result ≡ definition.comes_later (name_of_option head.now.name) cursor.now }
 {
     begins_other(cursor.kind()) || begins_constructor(head, cursor)
 }
@@ -246,34 +235,9 @@ fn with_member(so_far: Members, number: TreeId) -> Result<Members, AllocError>
 
 // ---- the tree
 
-// The path of a name without qualifiers.
-fn path_to(alloc: Global, name: Spelled<'_>) -> Result<Path, AllocError>
-    ensures { IfOk result (λ path. path_at path ≡ path_of (lexeme_at name.entry)) }
-{
-    let mut parts = Listed::new(alloc);
-    parts.push(PathPart {
-        word: Word::from_slice(alloc, name.spelling)?,
-        place: name.place,
-        arguments: None,
-    })?;
-    Ok(Path {
-        global: false,
-        parts,
-    })
-}
-
-fn path_if(alloc: Global, name: Option<Spelled<'_>>) -> Result<Option<Path>, AllocError>
-    ensures { IfOk result (λ path. option_map path_at path ≡ path_of_option (option_map lexeme_at name.entry)) }
-{
-    match name {
-        Some(token) => Ok(Some(path_to(alloc, token)?)),
-        None => Ok(None),
-    }
-}
-
 fn class_tree(
     state: &mut State,
-    head: &Head<'_>,
+    head: &Head,
     begun: Begun,
     members: TreeIdList,
     from: &Cursor<'_>,
@@ -283,7 +247,7 @@ fn class_tree(
     requires members { AreTreesHeld state.old members }
     ensures { GrowsTree state.old state.new result (definition.class_tree (head_of head.now) begun.class.0 (trees_held state.old members) from.now to.now) }
 {
-    let path = path_if(from.alloc(), head.name)?;
+    let path = path_to_option(from.alloc(), &head.name)?;
     let spelling = Text::from_slice(from.alloc(), class_key(head.is_union))?;
     let mut node = node_from(CLASS_DEFINITION, spelling, from, to, members);
     node.place = head.place;
@@ -308,7 +272,7 @@ fn class_left(
     state: &mut State,
     cursor: &Cursor<'_>,
     so_far: Specifiers,
-    head: &Head<'_>,
+    head: &Head,
     begun: Begun,
     members: TreeIdList,
     from: &Cursor<'_>,
@@ -326,7 +290,7 @@ fn class_left(
 
 // A union without a name that declares no object is anonymous (9.5), which is left out.
 #[tactic(auto, using(cxx_cursor::proofs::Kept::later_refl), unfolding(cxx_language::specs::Classes::no_anonymous_union))]
-fn no_anonymous_union(state: &State, cursor: &Cursor<'_>, head: &Head<'_>) -> Result<(), Stop>
+fn no_anonymous_union(state: &State, cursor: &Cursor<'_>, head: &Head) -> Result<(), Stop>
     ensures { IsRead itself AnyKnown state.now state.now cursor.now result (definition.no_anonymous_union (head_of head.now) (meaning state.now) cursor.now) }
 {
     let _ = state;
@@ -345,11 +309,11 @@ impl<D: Defines> Space<'_, D> {
         &self,
         state: &mut State,
         cursor: &mut Cursor<'_>,
-        head: &Head<'_>,
+        head: &Head,
         so_far: Members,
     ) -> Result<Turn<Members, TreeIdList>, Stop>
         requires { AreMembers state.old so_far }
-        ensures { IsRead members_turn IsMembersTurn state.old state.new cursor.new result (definition.declared_step (definition.class_at self.now.room) self.now.room (option_map lexeme_at head.now.name) (members_of state.old so_far) (meaning state.old) cursor.old) }
+        ensures { IsRead members_turn IsMembersTurn state.old state.new cursor.new result (definition.declared_step (definition.class_at self.now.room) self.now.room (name_of_option head.now.name) (members_of state.old so_far) (meaning state.old) cursor.old) }
     {
         let ahead = behind_words(cursor);
         if comes_later(head, &ahead) {
@@ -359,18 +323,18 @@ impl<D: Defines> Space<'_, D> {
         Ok(Turn::More(with_member(so_far, number)?))
     }
 
-    // A member, a label, `;` alone, or the end of the list.
+    // A member, a label, a using-declaration, `;` alone, or the end of the list.
     #[cycle(nested)]
     #[tactic(auto, using(cxx_cursor::proofs::Kept::later_refl), unfolding(cxx_language::specs::Classes::list_step_by))]
     fn list_step(
         &self,
         state: &mut State,
         cursor: &mut Cursor<'_>,
-        head: &Head<'_>,
+        head: &Head,
         so_far: Members,
     ) -> Result<Turn<Members, TreeIdList>, Stop>
         requires { AreMembers state.old so_far }
-        ensures { IsRead members_turn IsMembersTurn state.old state.new cursor.new result (definition.list_step self.now.room (option_map lexeme_at head.now.name) (members_of state.old so_far) (meaning state.old) cursor.old) }
+        ensures { IsRead members_turn IsMembersTurn state.old state.new cursor.new result (definition.list_step self.now.room (name_of_option head.now.name) (members_of state.old so_far) (meaning state.old) cursor.old) }
     {
         if is_punct(punct::RIGHT_BRACE, cursor.kind()) {
             cursor.advance();
@@ -383,6 +347,9 @@ impl<D: Defines> Space<'_, D> {
         if is_access_word(cursor.kind()) {
             return access_step(state, cursor, so_far);
         }
+        if is_keyword(keyword::USING, cursor.kind()) {
+            return using_step(self.declares, state, cursor, so_far);
+        }
         self.declared_step(state, cursor, head, so_far)
     }
 
@@ -393,7 +360,7 @@ impl<D: Defines> Space<'_, D> {
         &self,
         state: &mut State,
         cursor: &mut Cursor<'_>,
-        head: &Head<'_>,
+        head: &Head,
         bases: TreeIdList,
     ) -> Result<TreeIdList, Stop>
         requires { AreTreesHeld state.old bases }
@@ -419,11 +386,59 @@ impl<D: Defines> Space<'_, D> {
         Ok(so_far.trees)
     }
 
+    // A name with qualifiers: the reader stands in what declares the class then (3.4.3).
+    #[tactic(auto, using(cxx_cursor::proofs::Kept::later_refl, cxx_cursor::proofs::Kept::later_trans))]
+    fn qualified_name(
+        &self,
+        state: &mut State,
+        cursor: &mut Cursor<'_>,
+    ) -> Result<Option<NameToken>, Stop>
+        ensures { IsRead optional_name AnyKnown state.old state.new cursor.new result (qualified_name (meaning state.old) cursor.old) }
+    {
+        let path = cursor.path_taken(state)?;
+        self.declares.enter_class(state, &path)?;
+        Ok(Some(last_token(cursor.alloc(), &path)?))
+    }
+
+    // The name of a class, taken if there is one.
+    #[tactic(auto, using(cxx_cursor::proofs::Kept::later_refl), unfolding(cxx_language::specs::Classes::class_name))]
+    fn class_name(
+        &self,
+        state: &mut State,
+        cursor: &mut Cursor<'_>,
+    ) -> Result<Option<NameToken>, Stop>
+        ensures { IsRead optional_name AnyKnown state.old state.new cursor.new result (definition.class_name (meaning state.old) cursor.old) }
+    {
+        if cursor.begins_name() && !cursor.is_plain_name() {
+            return self.qualified_name(state, cursor);
+        }
+        name_or_none(state, cursor)
+    }
+
+    // A key and a name, or a key alone, taken.
+    #[tactic(auto, using(cxx_cursor::proofs::Kept::later_refl), unfolding(cxx_language::specs::Classes::head_at))]
+    fn head_at(&self, state: &mut State, cursor: &mut Cursor<'_>) -> Result<Head, Stop>
+        ensures { IsRead head_held AnyKnown state.old state.new cursor.new result (definition.head_at (meaning state.old) cursor.old) }
+    {
+        let is_union = is_keyword(keyword::UNION, cursor.kind());
+        let access = key_access(cursor.kind());
+        let place = cursor.place();
+        cursor.advance();
+        let name = self.class_name(state, cursor)?;
+        let place = place_of(place, &name);
+        Ok(Head {
+            is_union,
+            access,
+            name,
+            place,
+        })
+    }
+
     // A class begins, by its name or without one.
-    fn class_number(&self, state: &mut State, head: &Head<'_>) -> Result<ClassId, Stop>
+    fn class_number(&self, state: &mut State, head: &Head) -> Result<ClassId, Stop>
         ensures { IsAsked class_number IsClassKnown state.old state.new result (definition.class_begins (head_of head.now) (meaning state.old)) }
     {
-        match head.name {
+        match &head.name {
             Some(name) => self.declares.begin_class(state, head.is_union, name),
             None => self
                 .declares
@@ -433,7 +448,7 @@ impl<D: Defines> Space<'_, D> {
 
     // A class begins.
     #[tactic(auto, using(cxx_cursor::proofs::Kept::later_trans))]
-    fn class_begun(&self, state: &mut State, head: &Head<'_>) -> Result<Begun, Stop>
+    fn class_begun(&self, state: &mut State, head: &Head) -> Result<Begun, Stop>
         ensures { IsAsked begun_number IsBegun state.old state.new result (definition.class_begins (head_of head.now) (meaning state.old)) }
     {
         let class = self.class_number(state, head)?;
@@ -447,17 +462,19 @@ impl<D: Defines> Space<'_, D> {
         state: &mut State,
         cursor: &Cursor<'_>,
         so_far: Specifiers,
-        head: &Head<'_>,
+        head: &Head,
         begun: Begun,
         members: TreeIdList,
+        outside: ScopeId,
         from: &Cursor<'_>,
     ) -> Result<Specifiers, Stop>
         requires known { AreSpecifiers state.old so_far }
         requires begun { IsBegun state.old begun }
         requires members { AreTreesHeld state.old members }
-        ensures { IsRead specifiers_of AreSpecifiers state.old state.new cursor.now result (class_ended (head_of head.now) begun.class.0 (trees_held state.old members) (specifiers_of state.old so_far) from.now (meaning state.old) cursor.now) }
+        ensures { IsRead specifiers_of AreSpecifiers state.old state.new cursor.now result (class_ended (head_of head.now) begun.class.0 (trees_held state.old members) (specifiers_of state.old so_far) outside.0 from.now (meaning state.old) cursor.now) }
     {
         self.declares.end_class(state, begun.class, head.place)?;
+        self.declares.stand_in(state, outside)?;
         no_anonymous_union(state, cursor, head)?;
         class_left(state, cursor, so_far, head, begun, members, from)
     }
@@ -470,24 +487,25 @@ impl<D: Defines> Space<'_, D> {
         state: &mut State,
         cursor: &mut Cursor<'_>,
         so_far: Specifiers,
-        head: &Head<'_>,
+        head: &Head,
         begun: Begun,
         bases: TreeIdList,
+        outside: ScopeId,
         from: &Cursor<'_>,
     ) -> Result<Specifiers, Stop>
         requires known { AreSpecifiers state.old so_far }
         requires begun { IsBegun state.old begun }
         requires bases { AreTreesHeld state.old bases }
-        ensures { IsRead specifiers_of AreSpecifiers state.old state.new cursor.new result (class_opened self.now.room (head_of head.now) begun.class.0 (trees_held state.old bases) (specifiers_of state.old so_far) from.now (meaning state.old) cursor.old) }
+        ensures { IsRead specifiers_of AreSpecifiers state.old state.new cursor.new result (class_opened self.now.room (head_of head.now) begun.class.0 (trees_held state.old bases) (specifiers_of state.old so_far) outside.0 from.now (meaning state.old) cursor.old) }
     {
         cursor.advance();
         let members = self.list_at(state, cursor, head, bases)?;
-        self.class_ended(state, cursor, so_far, head, begun, members, from)
+        self.class_ended(state, cursor, so_far, head, begun, members, outside, from)
     }
 
     // A definition of a class, from its key on.
     #[cycle(nested)]
-    #[tactic(auto, using(crate::proofs::Kept::begun_later, cxx_cursor::proofs::Kept::named_kept, cxx_cursor::proofs::Kept::named_later, cxx_cursor::proofs::Kept::trees_kept, cxx_cursor::proofs::Kept::trees_later, cxx_cursor::proofs::Kept::later_refl, cxx_cursor::proofs::Kept::later_trans), unfolding(cxx_tree::specs::Held::meaning, cxx_language::specs::Classes::class_at, cxx_language::specs::Classes::class_by, cxx_language::specs::Classes::head_at))]
+    #[tactic(auto, using(crate::proofs::Kept::begun_later, cxx_cursor::proofs::Kept::named_kept, cxx_cursor::proofs::Kept::named_later, cxx_cursor::proofs::Kept::trees_kept, cxx_cursor::proofs::Kept::trees_later, cxx_cursor::proofs::Kept::later_refl, cxx_cursor::proofs::Kept::later_trans), unfolding(cxx_tree::specs::Held::meaning, cxx_language::specs::Classes::class_at, cxx_language::specs::Classes::class_by))]
     fn class_at(
         &self,
         state: &mut State,
@@ -499,11 +517,11 @@ impl<D: Defines> Space<'_, D> {
     {
         let outside = state.scope();
         let from = cursor.mark();
-        no_member_class(state, cursor)?;
-        let head = head_at(cursor);
+        let head = self.head_at(state, cursor)?;
+        let home = state.scope();
         let begun = self.class_begun(state, &head)?;
-        let bases = self.bases_or_none(state, cursor, outside, begun.class, head.access)?;
-        self.class_opened(state, cursor, so_far, &head, begun, bases, &from)
+        let bases = self.bases_or_none(state, cursor, home, begun.class, head.access)?;
+        self.class_opened(state, cursor, so_far, &head, begun, bases, outside, &from)
     }
 
     // A class, and the specifiers behind it, of a member.

@@ -5,6 +5,7 @@ ghost use Rattle.cxx_answers.specs.Defaults as defaults;
 ghost use Rattle.cxx_declare.specs.Based.{base_of};
 ghost use Rattle.cxx_declare.specs.Bases as bases;
 ghost use Rattle.cxx_declare.specs.ClassDefinitions as classes;
+ghost use Rattle.cxx_declare.specs.OutsideClasses as outside;
 ghost use Rattle.cxx_language.specs.Asked.{inner_at, phrases_at};
 ghost use Rattle.cxx_language.specs.Bodies.{function_body};
 ghost use Rattle.cxx_phrases.specs.Levels.{assignment_at};
@@ -55,9 +56,14 @@ pub trait Defines: Declares {
         &self,
         state: &mut State,
         is_union: bool,
-        name: Spelled<'_>,
+        name: &NameToken,
     ) -> Result<ClassId, Stop>
-        ensures { IsAsked class_number IsClassKnown state.old state.new result (classes.begin_class is_union (lexeme_at name.entry) (meaning state.old)) };
+        ensures { IsAsked class_number IsClassKnown state.old state.new result (classes.begin_class is_union (name_at name.now) (meaning state.old)) };
+
+    /// The name of a class that is defined, with qualifiers, means one in what declares it, where the reader stands then (clause
+    /// 9, 3.4.3).
+    fn enter_class(&self, state: &mut State, path: &Path) -> Result<(), Stop>
+        ensures { IsAsked itself AnyKnown state.old state.new result (outside.enter_class (path_at path.now) (meaning state.old)) };
 
     /// The definition of a class without a name begins, at its key (clause 9): its number.
     fn begin_unnamed(

@@ -1,5 +1,0 @@
-use Rattle.cxx_expr.proofs.NodeKept.{node_later}
-use Rattle.cxx_called.proofs.bases.based_in.Goals as goal
-
-pub based_on-requires-clause-callee : goal.based_on-requires-clause-callee
-based_on-requires-clause-callee g c = node_later _ _ _ c.type_of_class.ensures.later c.requires.callee
