@@ -11,9 +11,9 @@ use Rattle.cxx_model.specs.Facts.Declarations.{CxxFact, CxxGraph, CxxName, decla
 use Rattle.cxx_model.specs.Facts.Entities.{meant_by}
 use Rattle.cxx_model.specs.Facts.Graph.{Graph}
 use Rattle.cxx_graph.specs.Numbered.{is_in_scope, numbers_from, numbers_of}
-use Rattle.cxx_meaning.specs.Lookups.Associated.{adl, befriended, functions_among, space_id, standing_in_each, target_by, target_named}
+use Rattle.cxx_meaning.specs.Lookups.Associated.{adl, befriended, functions_among, is_target, space_id, standing_in_each, target_by, target_named}
 use Rattle.cxx_meaning.specs.Lookups.Gathered.{before, gathered, with_fact, with_facts}
-use Rattle.cxx_meaning.specs.Lookups.Sightings.{Sighting, is_named, number_id, sighting_in, sighting_of, standing}
+use Rattle.cxx_meaning.specs.Lookups.Sightings.{Sighting, number_id, sighting_in, sighting_of, standing}
 use Rattle.cxx_meaning.specs.Lookups.Wanted.{any_name, is_function}
 use Rattle.cxx_adl.specs.declared.functions.Meant.{Meant}
 use Rattle.cxx_adl.specs.Functions.{first_by, firsts, meant_at}
@@ -99,10 +99,10 @@ spaces_more graph cut name found new space others e = ap (λ xs. with_facts xs (
 pub target_none : (types : List CxxType) (graph : Graph) (name : CxxName) (target : FactId) → slice_get graph.facts target.0 ≡ None → sighting_list (target_by (graph_at types graph) name (Some target)) ≡ []
 target_none types graph name target at = ap (λ o. sighting_list (target_named (graph_at types graph) name target o)) (fact_is types graph.facts target.0 ∙ ap (option_map (fact_at types)) at)
 
-pub target_other : (types : List CxxType) (graph : Graph) (name : CxxName) (target : FactId) (fact : Fact) → slice_get graph.facts target.0 ≡ Some fact → is_named name (fact_at types fact) ≡ false → sighting_list (target_by (graph_at types graph) name (Some target)) ≡ []
+pub target_other : (types : List CxxType) (graph : Graph) (name : CxxName) (target : FactId) (fact : Fact) → slice_get graph.facts target.0 ≡ Some fact → is_target (graph_at types graph) name (fact_at types fact) ≡ false → sighting_list (target_by (graph_at types graph) name (Some target)) ≡ []
 target_other types graph name target fact at e = ap (λ o. sighting_list (target_named (graph_at types graph) name target o)) (fact_is types graph.facts target.0 ∙ ap (option_map (fact_at types)) at) ∙ ap (λ t. sighting_list (cond t (Some (sighting_of (facts_at types graph.facts) target.0 (fact_at types fact))) None)) e
 
-pub target_is : (types : List CxxType) (graph : Graph) (name : CxxName) (target : FactId) (fact : Fact) → slice_get graph.facts target.0 ≡ Some fact → is_named name (fact_at types fact) ≡ true → sighting_list (target_by (graph_at types graph) name (Some target)) ≡ sighting_of (facts_at types graph.facts) target.0 (fact_at types fact) ∷ []
+pub target_is : (types : List CxxType) (graph : Graph) (name : CxxName) (target : FactId) (fact : Fact) → slice_get graph.facts target.0 ≡ Some fact → is_target (graph_at types graph) name (fact_at types fact) ≡ true → sighting_list (target_by (graph_at types graph) name (Some target)) ≡ sighting_of (facts_at types graph.facts) target.0 (fact_at types fact) ∷ []
 target_is types graph name target fact at e = ap (λ o. sighting_list (target_named (graph_at types graph) name target o)) (fact_is types graph.facts target.0 ∙ ap (option_map (fact_at types)) at) ∙ ap (λ t. sighting_list (cond t (Some (sighting_of (facts_at types graph.facts) target.0 (fact_at types fact))) None)) e
 
 before_first : (o : Option Sighting) (xs : List Sighting) → before o xs ≡ sighting_list o ++ xs

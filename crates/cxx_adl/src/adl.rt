@@ -8,7 +8,7 @@ ghost use Rattle.cxx_model.specs.Types.Trees.{CxxType};
 ghost use Rattle.cxx_model.specs.Facts.Declarations.{declares_at, fact_at, graph_at, name_at};
 ghost use Rattle.cxx_model.specs.Facts.Entities.{is_seen as is_seen_at};
 ghost use Rattle.cxx_model.specs.Facts.Fitted.{IsFactBelow, IsGraphBelow, IsNameBelow};
-ghost use Rattle.cxx_meaning.specs.Lookups.Associated.{adl as adl_of, befriended, standing_in_each, target_by, target_of as target_among};
+ghost use Rattle.cxx_meaning.specs.Lookups.Associated.{adl as adl_of, befriended, is_target as is_target_named, standing_in_each, target_by, target_of as target_among};
 ghost use Rattle.cxx_meaning.specs.Lookups.Gathered.{gathered, with_facts};
 ghost use Rattle.cxx_meaning.specs.Lookups.Sightings.{befriends as befriends_by, is_by_friend as is_made_by_friend, sighting_in, sighting_of, standing};
 ghost use Rattle.cxx_meaning.specs.Lookups.Wanted.{any_name};
@@ -185,23 +185,35 @@ impl Asking<'_> {
 
     // ---- friends
 
+    // Whether a fact is a declaration of a name in a namespace.
+    fn is_target(&self, holders: &[Holder], name: &Name, fact: &Fact) -> bool
+        requires holders { holders.now ≡ holders_of self.now.graph.now.facts }
+        requires name { IsNameBelow (length self.now.types.now) name.now }
+        requires fact { IsFactBelow (length self.now.types.now) fact.now }
+        ensures { result ≡ is_target_named (graph_of self.now) (name_at self.now.types.now name.now) (fact_at self.now.types.now fact.now) }
+    {
+        self.is_space(holders, fact.scope) && self.is_named(name, fact)
+    }
+
     // Adds the function that a friend declaration declares, where it is of the name.
     #[tactic(auto, using(crate::proofs::Standing::target_none, crate::proofs::Standing::target_other, crate::proofs::Standing::target_is, crate::proofs::Bases::fact_is), unfolding(cxx_meaning::specs::Lookups::Gathered::with_facts))]
     fn add_target<L: Ledger>(
         &self,
+        holders: &[Holder],
         name: &Name,
         target: FactId,
         found: &mut Vec<FactId>,
         steps: &mut Steps<L>,
     ) -> Result<(), AllocError>
         requires graph { IsGraphBelow (length self.now.types.now) self.now.graph.now }
+        requires holders { holders.now ≡ holders_of self.now.graph.now.facts }
         requires name { IsNameBelow (length self.now.types.now) name.now }
         ensures { OnOk result (found.new.items ≡ with_facts found.old.items (firsts (graph_of self.now) (sighting_list (target_by (graph_of self.now) (name_at self.now.types.now name.now) (Some target))))) }
     {
         match self.read(u64::from(target.0), steps) {
             None => Ok(()),
             Some(fact) => {
-                if self.is_named(name, fact) {
+                if self.is_target(holders, name, fact) {
                     self.add_meant(target, fact, found, steps)
                 } else {
                     Ok(())
@@ -214,6 +226,7 @@ impl Asking<'_> {
     #[tactic(auto, using(crate::proofs::Bases::fact_is), unfolding(cxx_meaning::specs::Lookups::Gathered::with_facts, cxx_meaning::specs::Lookups::Associated::befriended))]
     fn add_if_friend<L: Ledger>(
         &self,
+        holders: &[Holder],
         name: &Name,
         classes: &[u32],
         number: u32,
@@ -221,6 +234,7 @@ impl Asking<'_> {
         steps: &mut Steps<L>,
     ) -> Result<(), AllocError>
         requires graph { IsGraphBelow (length self.now.types.now) self.now.graph.now }
+        requires holders { holders.now ≡ holders_of self.now.graph.now.facts }
         requires name { IsNameBelow (length self.now.types.now) name.now }
         ensures { OnOk result (found.new.items ≡ with_facts found.old.items (firsts (graph_of self.now) (given_at (befriended (graph_of self.now) (name_at self.now.types.now name.now) classes.now) number (slice_get (facts_of self.now) number)))) }
     {
@@ -228,7 +242,7 @@ impl Asking<'_> {
             None => Ok(()),
             Some(fact) => match target_of(classes, fact.what) {
                 None => Ok(()),
-                Some(target) => self.add_target(name, target, found, steps),
+                Some(target) => self.add_target(holders, name, target, found, steps),
             },
         }
     }
@@ -237,17 +251,19 @@ impl Asking<'_> {
     #[tactic(auto, using(crate::proofs::Standing::friends_more, crate::proofs::Standing::friends_all))]
     fn add_friends<L: Ledger>(
         &self,
+        holders: &[Holder],
         name: &Name,
         classes: &[u32],
         found: &mut Vec<FactId>,
         steps: &mut Steps<L>,
     ) -> Result<(), AllocError>
         requires graph { IsGraphBelow (length self.now.types.now) self.now.graph.now }
+        requires holders { holders.now ≡ holders_of self.now.graph.now.facts }
         requires name { IsNameBelow (length self.now.types.now) name.now }
         ensures { OnOk result (found.new.items ≡ with_facts found.old.items (firsts (graph_of self.now) (gathered (befriended (graph_of self.now) (name_at self.now.types.now name.now) classes.now) 0 (facts_of self.now)))) }
     {
         for number in 0..self.graph.length() {
-            self.add_if_friend(name, classes, number, found, steps)?;
+            self.add_if_friend(holders, name, classes, number, found, steps)?;
         }
         Ok(())
     }
@@ -311,6 +327,6 @@ pub fn adl_set<L: Ledger>(
         &mut found,
         steps,
     )?;
-    asking.add_friends(name, sets.classes.as_slice(), &mut found, steps)?;
+    asking.add_friends(&holders, name, sets.classes.as_slice(), &mut found, steps)?;
     Ok(FactList::from_vec(found))
 }

@@ -59,7 +59,7 @@ ready_by held class is_union fact there known what plain = record {
 pub class_ready : (held : Held) (scope : ScopeId) (class : ClassId) (is_union : Bool) (fact : Fact) → scope.0 < scopes held.graph.facts → class.0 < length held.graph.classes → IsClassFact scope class is_union fact → IsReady held fact
 class_ready held scope class is_union fact there known is = ready_by held class is_union fact (subst (λ (s : ScopeId). s.0 < scopes held.graph.facts) (sym is.scope_is) there) known is.what_is is.plain
 
-word_is : (types : List CxxType) (n : Name) (word : List ℕ) → IsPlainName n → name_at types n ≡ spelled word → word_in n ≡ word
+pub word_is : (types : List CxxType) (n : Name) (word : List ℕ) → IsPlainName n → name_at types n ≡ spelled word → word_in n ≡ word
 word_is types name.Unnamed word plain e = absurd (cc)
 word_is types (name.Spelled w) word plain e = cc
 word_is types _ word plain e = absurd plain
@@ -107,7 +107,7 @@ class_there held graph numbers (Some one) same fitted ok is = class_found held.g
 
 -- ---- the innermost scope that is that of no class and of no parameters (3.3.1)
 
-abbrev AreBelow : ℕ → List ScopeId → Type 0
+abbrev pub AreBelow : ℕ → List ScopeId → Type 0
 AreBelow count [] = Unit {0}
 AreBelow count (scope ∷ others) = (scope.0 < count) × AreBelow count others
 
@@ -118,7 +118,7 @@ outer_below graph types scope ok within = by (slice_get (scope_facts (facts_at t
     by None at there = rw at (omega (arith, within))
     by (Some fact) at there = rw at there
 
-up_below : (graph : Graph) (types : List CxxType) → InRange graph → (room : ℕ) (scope : ScopeId) → scope.0 < scopes graph.facts → AreBelow (scopes graph.facts) (up (facts_at types graph.facts) room scope)
+pub up_below : (graph : Graph) (types : List CxxType) → InRange graph → (room : ℕ) (scope : ScopeId) → scope.0 < scopes graph.facts → AreBelow (scopes graph.facts) (up (facts_at types graph.facts) room scope)
 unfolding up
 up_below graph types ok zero scope within = (within, tt)
 up_below graph types ok (suc room) scope within = (within, by (nat_eq scope.0 0) (up_below graph types ok room (parent_of (facts_at types graph.facts) scope) (outer_below graph types scope ok within)))
@@ -127,7 +127,7 @@ up_below graph types ok (suc room) scope within = (within, by (nat_eq scope.0 0)
     by true below = tt
     by false below = below
 
-find_below : (count : ℕ) (test : ScopeId → Bool) (all : List ScopeId) → 0 < count → AreBelow count all → (scope_or_unit (find test all)).0 < count
+pub find_below : (count : ℕ) (test : ScopeId → Bool) (all : List ScopeId) → 0 < count → AreBelow count all → (scope_or_unit (find test all)).0 < count
 find_below count test [] some below = some
 find_below count test (scope ∷ others) some below = by (test scope) (find_below count test others some below.1)
   where

@@ -19,8 +19,8 @@ use Rattle.cxx_reading.specs.Choosing.{each_type}
 use Rattle.cxx_reading.specs.Declaring.{added, first_member_function, home_here}
 use Rattle.cxx_reading.specs.State.{CxxOffered, CxxState}
 use Rattle.cxx_reading.specs.Trees.{CxxTree}
-use Rattle.cxx_declare.specs.Functions.{declare_function, declare_with, free_if, function_by, given_as, is_linked_here, last_run, linked_if, not_given, offered_by, offered_in, with_all_given}
-use Rattle.cxx_declare.specs.Given.{added_giving, added_linking, declared_giving, read_by, read_in}
+use Rattle.cxx_declare.specs.Functions.{declare_function, declare_unread, declare_unread_with, declare_with, free_if, function_by, given_as, is_linked_here, last_run, linked_if, not_given, offered_by, offered_in, with_all_given}
+use Rattle.cxx_declare.specs.Given.{added_giving, added_linking, declared_giving, declared_unread, read_by, read_in}
 use Rattle.cxx_declare.specs.Made.{token, word_in}
 use Rattle.cxx_declare.proofs.Defining.{assoc}
 use Rattle.cxx_tree.specs.Answered.{IsAnswered, IsFactKnown, fact_number, scope_of_option}
@@ -156,3 +156,27 @@ pub from_list : (old new : Held) (list : Option ScopeId) (kind : TokenKind) (pla
     → IsAnswered fact_number IsFactKnown old new r (declare_with (is_linked_here (meaning old)) (token kind place word) of (first_here old word of) offers (meaning old)) → IsAnswered fact_number IsFactKnown old new r (declare_function (scope_of_option list) (token kind place word) of (meaning old))
 unfolding declare_function
 from_list old new list kind place word of offers r is answered = subst (λ os. IsAnswered fact_number IsFactKnown old new r (declare_with (is_linked_here (meaning old)) (token kind place word) of (first_here old word of) os (meaning old))) is answered
+
+-- ---- friends (11.4)
+
+pub unread_declared : (old new : Held) (kind : TokenKind) (place : Place) (word : List ℕ) (of : CxxType) (first : Option FactId) (offers : List CxxOffered) (fact : Fact) (r : Result FactId Stop) → fact_at old.types fact ≡ function_by (meaning old) (token kind place word) of first offers → fact.name ≡ name.Spelled word
+    → IsAnswered fact_number IsFactKnown old new r (declared_unread (fact_at old.types fact) (word_in fact.name) first offers (meaning old)) → IsAnswered fact_number IsFactKnown old new r (declare_unread_with (token kind place word) of first offers (meaning old))
+unread_declared old new kind place word of first offers fact r is named answered =
+    let whole : CxxFact = function_by (meaning old) (token kind place word) of first offers in
+    subst (λ reply. IsAnswered fact_number IsFactKnown old new r reply)
+    (assoc (free_if false (meaning old) whole word) (λ unit. not_given (meaning old) place word first offers) (λ unit. added whole (meaning old)))
+    (subst (λ (w : CxxFact). IsAnswered fact_number IsFactKnown old new r (declared_unread w word first offers (meaning old))) is
+    (subst (λ n. IsAnswered fact_number IsFactKnown old new r (declared_unread (fact_at old.types fact) (word_in n) first offers (meaning old))) named answered))
+
+abbrev unread_for : CxxState → Lexeme → CxxType → Option FactId → List CxxOffered → Answer (ℕ × CxxState)
+unread_for state name of first offers = declare_unread_with name of first offers state
+
+pub unread_first : (old new : Held) (kind : TokenKind) (place : Place) (word : List ℕ) (of : CxxType) (first f : Option FactId) (offers : List CxxOffered) (r : Result FactId Stop) → first ≡ f
+    → IsAnswered fact_number IsFactKnown old new r (declare_unread_with (token kind place word) of first offers (meaning old)) → IsAnswered fact_number IsFactKnown old new r (declare_unread_with (token kind place word) of f offers (meaning old))
+unread_first old new kind place word of first f offers r is answered =
+    subst (λ o. IsAnswered fact_number IsFactKnown old new r (unread_for (meaning old) (token kind place word) of o offers)) is answered
+
+pub unread_list : (old new : Held) (list : Option ScopeId) (kind : TokenKind) (place : Place) (word : List ℕ) (of : CxxType) (offers : List CxxOffered) (r : Result FactId Stop) → offers ≡ offered_by (scope_of_option list) (meaning old).offered
+    → IsAnswered fact_number IsFactKnown old new r (declare_unread_with (token kind place word) of (first_here old word of) offers (meaning old)) → IsAnswered fact_number IsFactKnown old new r (declare_unread (scope_of_option list) (token kind place word) of (meaning old))
+unfolding declare_unread
+unread_list old new list kind place word of offers r is answered = subst (λ os. IsAnswered fact_number IsFactKnown old new r (declare_unread_with (token kind place word) of (first_here old word of) os (meaning old))) is answered

@@ -1,6 +1,7 @@
 pub mod Agreeing
 pub mod Asking
 pub mod Based
+pub mod Befriending
 pub mod Begun
 pub mod Bringing
 pub mod BringingMembers

@@ -113,3 +113,16 @@ is_linked_here state = not (is_space_at state.graph state.here.scope)
 unfoldable pub declare_function : Option ℕ → Lexeme → CxxType → Asks CxxState ℕ
 declare_function list name of state =
     declare_with (is_linked_here state) name of (first_member_function state (home_here state) (spelled name.spelling) of) (offered_by list state.offered) state
+
+-- ---- friends (11.4)
+
+-- with no default argument of its own: neither linked, nor given what was read
+abbrev pub declare_unread_with : Lexeme → CxxType → Option FactId → List CxxOffered → Asks CxxState ℕ
+declare_unread_with name of first offers state = do
+  is_free ← free_if false state (function_by state name of first offers) name.spelling
+  is_fresh ← not_given state name.place name.spelling first offers
+  added (function_by state name of first offers) state
+
+-- a function of the namespace where the reader stands, the default arguments of which are read later (9.2 p2)
+unfoldable pub declare_unread : Option ℕ → Lexeme → CxxType → Asks CxxState ℕ
+declare_unread list name of state = declare_unread_with name of (first_member_function state (home_here state) (spelled name.spelling) of) (offered_by list state.offered) state

@@ -1,5 +1,5 @@
 -- Default arguments that a declaration gives, over what a state holds.
-use Rattle.std.specs.Prelude.{ℕ, Bool, nat_eq, if◌then◌else◌, List, [], ◌∷◌, Option, Some, None, Ok}
+use Rattle.std.specs.Prelude.{ℕ, Bool, false, nat_eq, if◌then◌else◌, List, [], ◌∷◌, Option, Some, None, Ok}
 use Rattle.cxx_model.specs.declared.types.FactId.{FactId}
 use Rattle.cxx_model.specs.declared.types.ScopeId.{ScopeId}
 use Rattle.cxx_model.specs.Facts.Declarations.{CxxFact}
@@ -36,3 +36,7 @@ added_linking linked fact offers state = linking_if linked (added_giving fact of
 
 abbrev pub declared_giving : Bool → CxxFact → List ℕ → Option FactId → List CxxOffered → CxxState → Answer (ℕ × CxxState)
 declared_giving linked fact word first offers state = giving_checked linked state fact word first offers >>= λ is_fresh. added_linking linked fact offers state
+
+-- the same where neither is given nor linked
+abbrev pub declared_unread : CxxFact → List ℕ → Option FactId → List CxxOffered → CxxState → Answer (ℕ × CxxState)
+declared_unread fact word first offers state = giving_checked false state fact word first offers >>= λ is_fresh. added fact state

@@ -1,10 +1,12 @@
 pub mod Agreed
 pub mod Based
 pub mod Bases
+pub mod Befriended
 pub mod Begun
 pub mod Brought
 pub mod ClassDefinitions
 pub mod Classes
+pub mod Friends
 pub mod Functions
 pub mod Given
 pub mod Made

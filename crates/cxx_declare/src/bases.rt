@@ -168,7 +168,8 @@ fn base_fact(of: BaseOf, place: Place, base: ClassId) -> Fact
     }
 }
 
-fn add_base(state: &mut State, fact: Fact) -> Result<(), Stop>
+/// Adds a fact of which the number is not asked.
+pub(crate) fn add_told(state: &mut State, fact: Fact) -> Result<(), Stop>
     requires { IsAddable state.old fact }
     ensures { IsAnswered itself AnyKnown state.old state.new result (told_added (fact_at (state.old).types fact) (meaning state.old)) }
 {
@@ -187,7 +188,7 @@ fn add_whole(state: &mut State, of: BaseOf, place: Place, base: ClassId) -> Resu
     requires unended { is_complete (state.old).graph.facts of.class.0 ≡ false }
     ensures { IsAnswered itself AnyKnown state.old state.new result (told_added (definition.base_fact (base_of of) place base.0) (meaning state.old)) }
 {
-    add_base(state, base_fact(of, place, base))
+    add_told(state, base_fact(of, place, base))
 }
 
 #[tactic(auto, using(crate::proofs::Based::known_added, crate::proofs::Based::known_stopped, crate::proofs::Based::no_memory))]

@@ -43,7 +43,7 @@ fn class_type(state: &mut State, class: ClassId) -> Result<TypeId, Stop>
 // ---- a class is declared (9.1)
 
 // The declaration of a class with a number.
-fn class_fact(
+pub(crate) fn class_fact(
     state: &State,
     scope: ScopeId,
     path: &Path,
@@ -193,7 +193,7 @@ fn class_missing(state: &mut State, path: &Path, is_union: bool) -> Result<TypeI
 }
 
 // The first class among declarations.
-fn class_of(state: &State, numbers: &[FactId]) -> Option<NamedClass>
+pub(crate) fn class_of(state: &State, numbers: &[FactId]) -> Option<NamedClass>
     ensures is { option_map class_named_at result ≡ definition.first_class (numbered_at (meaning state.now).graph (fact_numbers numbers.now)) }
     ensures there { IfSome result (λ one. one.class.0 < length (state.now).graph.classes) }
 {
@@ -203,7 +203,7 @@ fn class_of(state: &State, numbers: &[FactId]) -> Option<NamedClass>
 }
 
 // Whether a class may be named by the key of a union, or by another one.
-fn is_of_key(one: Option<bool>, is_union: bool) -> bool
+pub(crate) fn is_of_key(one: Option<bool>, is_union: bool) -> bool
     ensures { result ≡ definition.is_of_key one is_union }
 {
     match one {

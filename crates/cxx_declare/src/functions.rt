@@ -11,7 +11,7 @@ ghost use Rattle.cxx_reading.specs.Declaring.{added, fact_here};
 ghost use Rattle.cxx_reading.specs.State.{CxxState};
 ghost use Rattle.cxx_reading.specs.Trees.{CxxTree};
 ghost use Rattle.cxx_declare.specs.Functions as functions;
-ghost use Rattle.cxx_declare.specs.Given.{added_giving, added_linking, declared_giving, giving_checked, linking_if, read_by, read_in};
+ghost use Rattle.cxx_declare.specs.Given.{added_giving, added_linking, declared_giving, declared_unread, giving_checked, linking_if, read_by, read_in};
 ghost use Rattle.cxx_declare.specs.Made.{IsEarlierFunction, IsReady, token, word_in};
 ghost use Rattle.cxx_tree.specs.Answered.{IsAnswered, IsFactKnown, fact_number, scope_of_option};
 ghost use Rattle.cxx_tree.specs.Held.{AreOffersBelow, Held, fallback_at, meaning, offers_at, trees, type_of};
@@ -394,6 +394,77 @@ pub fn declare_function(
 {
     match offered_by(state, list) {
         Ok(offers) => declare_with(state, place, word, of, offers.as_slice()),
+        Err(_) => Err(Stop::OutOfMemory),
+    }
+}
+
+// ---- friends (11.4)
+
+// Adds a declaration that gives no default argument, and is not linked.
+#[tactic(auto, using(cxx_names::proofs::Plain::plain_fact))]
+fn add_unread(
+    state: &mut State,
+    fact: Fact,
+    first: Option<FactId>,
+    offers: &[Offer],
+) -> Result<FactId, Stop>
+    requires ready { IsReady state.old fact }
+    ensures { IsAnswered fact_number IsFactKnown state.old state.new result (declared_unread (fact_at (state.old).types fact) (word_in fact.name) first (offers_at (trees state.old) offers.now) (meaning state.old)) }
+{
+    match checked(state, false, &fact, first, offers) {
+        Ok(()) => state.add(fact),
+        Err(stop) => Err(stop),
+    }
+}
+
+fn declare_unread_first(
+    state: &mut State,
+    place: Place,
+    word: &[u8],
+    of: TypeId,
+    first: Option<FactId>,
+    offers: &[Offer],
+) -> Result<FactId, Stop>
+    requires known { of.0 < length (state.old).types }
+    requires earlier { IsEarlierFunction state.old word.now first }
+    ensures { (kind : TokenKind) → IsAnswered fact_number IsFactKnown state.old state.new result (functions.declare_unread_with (token kind place word.now) (type_of state.old of) first (offers_at (trees state.old) offers.now) (meaning state.old)) }
+{
+    match function_by(state, place, word, of, first, offers) {
+        Ok(fact) => add_unread(state, fact, first, offers),
+        Err(_) => Err(Stop::OutOfMemory),
+    }
+}
+
+fn declare_unread_with(
+    state: &mut State,
+    place: Place,
+    word: &[u8],
+    of: TypeId,
+    offers: &[Offer],
+) -> Result<FactId, Stop>
+    requires known { of.0 < length (state.old).types }
+    ensures { (kind : TokenKind) → IsAnswered fact_number IsFactKnown state.old state.new result (functions.declare_unread_with (token kind place word.now) (type_of state.old of) (declaring.first_member_function (meaning state.old) (declaring.home_here (meaning state.old)) (spelled_name word.now) (type_of state.old of)) (offers_at (trees state.old) offers.now) (meaning state.old)) }
+{
+    match first_function_here(state, of, word) {
+        Ok(first) => declare_unread_first(state, place, word, of, first, offers),
+        Err(_) => Err(Stop::OutOfMemory),
+    }
+}
+
+/// A function of the namespace where the reader stands is declared, the default arguments of which are read later (9.2 p2). None
+/// is given to it.
+pub(crate) fn declare_unread(
+    state: &mut State,
+    list: Option<ScopeId>,
+    place: Place,
+    word: &[u8],
+    of: TypeId,
+) -> Result<FactId, Stop>
+    requires { of.0 < length (state.old).types }
+    ensures { (kind : TokenKind) → IsAnswered fact_number IsFactKnown state.old state.new result (functions.declare_unread (scope_of_option list) (token kind place word.now) (type_of state.old of) (meaning state.old)) }
+{
+    match offered_by(state, list) {
+        Ok(offers) => declare_unread_with(state, place, word, of, offers.as_slice()),
         Err(_) => Err(Stop::OutOfMemory),
     }
 }

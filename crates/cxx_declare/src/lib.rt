@@ -10,6 +10,7 @@ mod classes;
 mod conflict;
 mod enumerations;
 mod facts;
+mod friends;
 mod functions;
 mod linking;
 mod member_usings;
@@ -29,6 +30,7 @@ pub use bodies::{begin_body, end_body};
 pub use class_definitions::{MemberWords, begin_class, begin_unnamed, declare_member, end_class};
 pub use classes::class_here;
 pub use enumerations::{declare_enumeration, declare_enumerator, end_enumeration};
+pub use friends::{befriend_again, befriend_class, befriend_function};
 pub use functions::declare_function;
 pub use member_usings::bring_member;
 pub use objects::{

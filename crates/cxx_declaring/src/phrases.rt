@@ -17,7 +17,9 @@ use cxx_declare as declare;
 use cxx_declare::{BaseOf, MemberWords};
 use cxx_heads::Head;
 use cxx_knot::{condition_ahead, head_ahead, read_phrase};
-use cxx_model::{ClassId, FactId, Form, Listed, Path, Place, ScopeId, Stop, TreeId, TypeId, punct};
+use cxx_model::{
+    ClassId, Cv, FactId, Form, Listed, Path, Place, ScopeId, Stop, TreeId, TypeId, punct,
+};
 use cxx_phrases::{Initializer, Level};
 use cxx_space::Defines;
 use cxx_tree::State;
@@ -185,6 +187,35 @@ impl Defines for Declaring {
     ) -> Result<FactId, Stop> {
         let word = name.spelling.as_slice();
         declare::declare_member(state, words, list, name.place, word, of)
+    }
+
+    fn befriend_function(
+        &self,
+        state: &mut State,
+        scope: ScopeId,
+        list: Option<ScopeId>,
+        name: &NameToken,
+        of: TypeId,
+    ) -> Result<FactId, Stop> {
+        let word = name.spelling.as_slice();
+        declare::befriend_function(state, scope, list, name.place, word, of)
+    }
+
+    fn befriend_again(
+        &self,
+        state: &mut State,
+        scope: ScopeId,
+        name: &NameToken,
+        cv: Cv,
+        of: TypeId,
+    ) -> Result<FactId, Stop> {
+        let word = name.spelling.as_slice();
+        declare::befriend_again(state, scope, name.place, word, cv, of)
+    }
+
+    #[tactic(auto, using(crate::proofs::Answering::asked))]
+    fn befriend_class(&self, state: &mut State, is_union: bool, path: &Path) -> Result<(), Stop> {
+        declare::befriend_class(state, path, is_union)
     }
 
     #[tactic(auto, using(crate::proofs::Answering::asked, cxx_cursor::proofs::Kept::later_refl))]

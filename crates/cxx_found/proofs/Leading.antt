@@ -237,7 +237,7 @@ befriended_nothing : (graph : CxxGraph) (word : CxxName) (number : ℕ) (fact : 
 unfolding befriended
 befriended_nothing graph word number fact = rw (no_target fact.what) refl
 
-gathered_nothing : (graph : CxxGraph) (word : CxxName) (number : ℕ) (all : List CxxFact) → gathered (befriended graph word []) number all ≡ []
+pub gathered_nothing : (graph : CxxGraph) (word : CxxName) (number : ℕ) (all : List CxxFact) → gathered (befriended graph word []) number all ≡ []
 gathered_nothing graph word number [] = refl
 gathered_nothing graph word number (fact ∷ all) =
     ap (λ o. before o (gathered (befriended graph word []) (number + 1) all)) (befriended_nothing graph word number fact)

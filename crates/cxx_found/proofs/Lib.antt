@@ -1,10 +1,10 @@
 pub mod Alone
 pub mod Chained
 pub mod Facts
+pub mod Friends
 pub mod Inside
 pub mod Leading
 pub mod Outer
-pub mod Outside
 pub mod Parts
 pub mod Rows
 pub mod Searching

@@ -1,4 +1,4 @@
--- What the types of arguments find where there are no templates and no friends (3.4.2).
+-- What the types of arguments find where there are no templates (3.4.2).
 use Rattle.std.specs.Prelude.{ℕ, ◌≡◌, ◌+◌, Bool, true, false, ◌||◌, nat_eq, nat_lt, List, [], ◌∷◌, ◌++◌, length, map, find, Option, Some, None, Ok, refl}
 use Rattle.std.proofs.Common.{ap, sym, subst, ◌∙◌, cond, append-nil, append_assoc}
 use Rattle.std.proofs.lemmas.Bool.{eqb-true}
@@ -14,8 +14,7 @@ use Rattle.cxx_model.specs.Facts.Declarations.{CxxGraph, CxxName, CxxSpecialisat
 use Rattle.cxx_model.specs.Facts.Graph.{Graph}
 use Rattle.cxx_model.specs.Facts.Pending.{is_pending}
 use Rattle.cxx_model.specs.Types.Trees.{CxxType, fundamental, class_type, enumeration, pointer_to, reference_to, array_of, function_of, qualified, type_parameter, specialisation, nested_in}
-use Rattle.cxx_meaning.specs.Lookups.Associated.{Part, adl, associated, befriended, class_of, collected, declares_template, first_scope, functions_among, of_base, of_type, own_classes, parts, scope_of_pattern, scope_of_template, sets_of, space_at_scope, space_id, spaces_of, standing_in_each, target_by, target_of, template_scope_of, unless_pending, with_number, with_option, with_spaces}
-use Rattle.cxx_meaning.specs.Lookups.Gathered.{before, gathered}
+use Rattle.cxx_meaning.specs.Lookups.Associated.{Part, adl, associated, class_at_scope, class_of, collected, declares_template, first_scope, functions_among, member_scope_of, of_base, of_type, own_classes, parts, scope_of_pattern, scope_of_template, sets_of, space_at_scope, space_id, spaces_of, standing_in_each, template_scope_of, unless_pending, with_member_classes, with_number, with_option, with_spaces}
 use Rattle.cxx_meaning.specs.Lookups.Scopes.{home}
 use Rattle.cxx_meaning.specs.Lookups.Sightings.{entities, standing}
 use Rattle.cxx_meaning.specs.Lookups.Wanted.{Wanted, any_name}
@@ -23,17 +22,14 @@ use Rattle.cxx_members.specs.declared.sightings.Sighting.{Sighting as OneSeen}
 use Rattle.cxx_members.specs.Sighted.{Adds, sighting_at}
 use Rattle.cxx_names.specs.Plain.{ArePlain, IsPlainFact}
 use Rattle.cxx_reading.specs.Linked.{home_of}
-use Rattle.cxx_found.specs.Associated.{AreFoundBy, any_pending, found_in_sets, given, is_pending_by}
+use Rattle.cxx_found.specs.Associated.{AreFoundBy, any_pending, enumeration_scope_of, found_in_sets, friends_in, given, is_pending_by, with_enumeration_classes}
+use Rattle.cxx_found.proofs.Friends.{befriended_are}
 
--- ---- neither templates nor friends
+-- ---- no templates
 
 no_template : (types : List CxxType) (n : ℕ) (what : Entity) → IsPlainFact what → declares_template n (declares_at types what) ≡ false
 no_template types n (entity.Template template member defaults is_explicit first) bad = absurd bad
 no_template types n _ is = refl
-
-no_target : (types : List CxxType) (classes : List ℕ) (what : Entity) → IsPlainFact what → target_of classes (declares_at types what) ≡ None
-no_target types classes (entity.Friend class target) bad = absurd bad
-no_target types classes _ is = refl
 
 first_none : (test : Declares → Bool) (types : List CxxType) (facts : List Fact) → ((what : Entity) → IsPlainFact what → test (declares_at types what) ≡ false) → ArePlain facts → first_scope test (facts_at types facts) ≡ None
 first_none test types [] never plain = refl
@@ -175,26 +171,41 @@ each_more types graph cut wanted name old new space others is adds =
 
 -- ---- what is found
 
-befriended_none : (types : List CxxType) (graph : CxxGraph) (name : CxxName) (classes : List ℕ) (number : ℕ) (fact : Fact) → IsPlainFact fact.what → befriended graph name classes number (fact_at types fact) ≡ None
-unfolding befriended
-befriended_none types graph name classes number fact is = ap (target_by graph name) (no_target types classes fact.what is)
+collected_same : (give other : Part → Option ℕ) (found : List ℕ) (all : List Part) → ((part : Part) → give part ≡ other part) → collected give found all ≡ collected other found all
+unfolding collected
+collected_same give other found [] same = refl
+collected_same give other found (part ∷ all) same = ap (λ o. collected give (with_option o found) all) (same part) ∙ collected_same give other (with_option (other part) found) all same
 
-gathered_none : (types : List CxxType) (graph : CxxGraph) (name : CxxName) (classes : List ℕ) (number : ℕ) (facts : List Fact) → ArePlain facts → gathered (befriended graph name classes) number (facts_at types facts) ≡ []
-gathered_none types graph name classes number [] plain = refl
-gathered_none types graph name classes number (fact ∷ facts) plain =
-    ap (λ o. before o (gathered (befriended graph name classes) (number + 1) (facts_at types facts))) (befriended_none types graph name classes number fact plain.0)
-    ∙ gathered_none types graph name classes (number + 1) facts plain.1
+enumerations_alone : (graph : CxxGraph) (part : Part) → ((n : ℕ) → scope_of_template graph n ≡ None) → enumeration_scope_of graph part ≡ member_scope_of graph part
+enumerations_alone graph (of_base n) none = refl
+enumerations_alone graph (of_type (class_type n)) none = sym (no_pattern_scope graph (slice_get graph.classes n) none)
+enumerations_alone graph (of_type (specialisation n _)) none = sym (none n)
+enumerations_alone graph (of_type (fundamental base)) none = refl
+enumerations_alone graph (of_type (enumeration n)) none = refl
+enumerations_alone graph (of_type (pointer_to t)) none = refl
+enumerations_alone graph (of_type (reference_to t)) none = refl
+enumerations_alone graph (of_type (array_of t bound)) none = refl
+enumerations_alone graph (of_type (function_of r ts ellipsis cv)) none = refl
+enumerations_alone graph (of_type (qualified cv t)) none = refl
+enumerations_alone graph (of_type (type_parameter depth index)) none = refl
+enumerations_alone graph (of_type (nested_in t word)) none = refl
 
-pub found_are : (types : List CxxType) (graph : Graph) (ts : List CxxType) (name : CxxName) (spaces : List ℕ) (found : List FactId) → ArePlain graph.facts → any_pending (graph_at types graph) (parts (graph_at types graph) ts) ≡ false → spaces ≡ spaces_of (graph_at types graph) (parts (graph_at types graph) ts)
-    → found ≡ entities (functions_among (graph_at types graph) (standing_in_each (graph_at types graph) (length (facts_at types graph.facts)) name spaces)) → AreFoundBy (graph_at types graph) ts name found
+members_are : (types : List CxxType) (graph : Graph) (all : List Part) (found : List ℕ) → ArePlain graph.facts → with_enumeration_classes (graph_at types graph) all found ≡ with_member_classes (graph_at types graph) all found
+members_are types graph all found plain =
+    let g : CxxGraph = graph_at types graph in
+    collected_same (λ part. class_at_scope g (enumeration_scope_of g part)) (λ part. class_at_scope g (member_scope_of g part)) found all (λ part. ap (class_at_scope g) (enumerations_alone g part (λ n. no_template_scope types graph n plain)))
+
+pub found_are : (types : List CxxType) (graph : Graph) (ts : List CxxType) (name : CxxName) (spaces classes : List ℕ) (found : List FactId) → ArePlain graph.facts → any_pending (graph_at types graph) (parts (graph_at types graph) ts) ≡ false → spaces ≡ spaces_of (graph_at types graph) (parts (graph_at types graph) ts) → classes ≡ with_enumeration_classes (graph_at types graph) (parts (graph_at types graph) ts) (own_classes (parts (graph_at types graph) ts))
+    → found ≡ entities (functions_among (graph_at types graph) (standing_in_each (graph_at types graph) (length (facts_at types graph.facts)) name spaces ++ friends_in (graph_at types graph) name graph.facts classes)) → AreFoundBy (graph_at types graph) ts name found
 unfolding adl
-found_are types graph ts name spaces found plain ready are is =
+found_are types graph ts name spaces classes found plain ready are those is =
     let g : CxxGraph = graph_at types graph in
     let sets : Associated = sets_of g (parts g ts) in
     let cut : ℕ = length (facts_at types graph.facts) in
     is
-    ∙ ap (λ ss. entities (functions_among g (standing_in_each g cut name ss))) are
-    ∙ ap (λ ones. entities (functions_among g ones)) (sym (append-nil (standing_in_each g cut name sets.spaces)) ∙ ap (λ more. standing_in_each g cut name sets.spaces ++ more) (sym (gathered_none types g name sets.classes 0 graph.facts plain)))
+    ∙ ap (λ ss. entities (functions_among g (standing_in_each g cut name ss ++ friends_in g name graph.facts classes))) are
+    ∙ ap (λ cs. entities (functions_among g (standing_in_each g cut name sets.spaces ++ friends_in g name graph.facts cs))) (those ∙ members_are types graph (parts g ts) (own_classes (parts g ts)) plain)
+    ∙ befriended_are g name types graph.facts sets.classes (standing_in_each g cut name sets.spaces)
     ∙ sym (ap (found_in_sets g name) (associated_by g ts ready))
 
 -- the same, where it is seen otherwise

@@ -27,8 +27,8 @@ use Rattle.cxx_found.specs.declared.shown.Shown.{Shown}
 
 -- ---- what a lookup reads
 
--- The index is that of the graph, the graph and the table of types fit together, nothing is declared of templates, bases and
--- friends, and what is known of the word is so.
+-- The index is that of the graph, the graph and the table of types fit together, nothing is declared of templates, and
+-- what is known of the word is so.
 pub record IsSeeking (seeking : Seeking) : Type 0 where
   pub noted : Notes seeking.names.now seeking.looking.graph.now.facts
   pub fitted : Fitted seeking.looking.graph.now seeking.looking.types.now

@@ -1,5 +1,5 @@
 -- How a class is defined among the specifiers of a declaration (clause 9): its head, and its members up to its end.
-use Rattle.std.specs.Prelude.{ℕ, zero, suc, Bool, true, false, not, ◌&&◌, ◌||◌, if◌then◌else◌, List, [], ◌∷◌, ◌++◌, length, codes, Option, Some, None}
+use Rattle.std.specs.Prelude.{ℕ, zero, suc, Bool, true, false, nat_eq, not, ◌&&◌, ◌||◌, if◌then◌else◌, List, [], ◌∷◌, ◌++◌, length, codes, Option, Some, None}
 use Rattle.std.specs.Str.{bytes_eq}
 use Rattle.cxx_model.specs.declared.facts.Access.{Access}
 use Rattle.cxx_model.specs.declared.facts.Access.TheVariants as access
@@ -10,13 +10,14 @@ use Rattle.cxx_model.specs.declared.place.Place.{Place}
 use Rattle.cxx_model.specs.declared.punct.TheConstants as punct
 use Rattle.cxx_model.specs.declared.stop.LimitKind.TheVariants.{Nesting}
 use Rattle.cxx_model.specs.declared.token.TokenKind.{TokenKind}
-use Rattle.cxx_model.specs.declared.token.TokenKind.TheVariants.{Keyword}
 use Rattle.cxx_model.specs.declared.types.Cv.{Cv}
 use Rattle.cxx_model.specs.Text.Lexemes.{Lexeme}
 use Rattle.cxx_model.specs.Types.Trees.{CxxType, class_type}
 use Rattle.cxx_reading.specs.declared.specifier.Naming.TheVariants as naming
 use Rattle.cxx_reading.specs.declared.specifier.SpecifierPlace.TheVariants as where_
-use Rattle.cxx_reading.specs.Declarators.{Specifiers, Declarator, has_type, is_function_type, is_reference, member_type, no_cv, own_parameters}
+use Rattle.cxx_reading.specs.declared.specifier.StorageWord.TheVariants as storage
+use Rattle.cxx_reading.specs.Declarators.{Specifiers, Declarator, declared_type, has_type, is_function_type, is_reference, member_type, no_cv, no_specifiers, own_parameters}
+use Rattle.cxx_reading.specs.Declaring.{enumeration_count}
 use Rattle.cxx_reading.specs.Labels.{label_from}
 use Rattle.cxx_reading.specs.Productions as production
 use Rattle.cxx_reading.specs.Reads.{Reads, Ahead, Asks, Turn, More, Done, ◌>>=◌, got, give, ask, fault_at, limited, looked, taken, tokens, kind_ahead, place_ahead, word_ahead, count_ahead, behind, repeat}
@@ -33,6 +34,7 @@ use Rattle.cxx_later.specs.Waiting.{waiting_in}
 use Rattle.cxx_declare.specs.declared.class_definitions.MemberWords.{MemberWords}
 use Rattle.cxx_declare.specs.Bases.{BaseOf, declare_base}
 use Rattle.cxx_declare.specs.ClassDefinitions.{begin_class, begin_unnamed, declare_member, end_class}
+use Rattle.cxx_declare.specs.Friends.{befriend_again, befriend_class, befriend_function}
 use Rattle.cxx_language.specs.Asked.{asked, inner_at}
 use Rattle.cxx_language.specs.Bodies.{standing}
 use Rattle.cxx_language.specs.Later.{Declares, all_read, ended_by, member_body}
@@ -300,14 +302,128 @@ using_step so_far = do
   brought ← member_using_at so_far.access
   give (More so_far)
 
--- a member, a label, a using-declaration, `;` alone, or the end of the list
+-- ---- friends (11.4)
+
+-- No storage word stands behind `friend` (7.1.1 p1).
+abbrev pub friend_specifiers : Bool → Specifiers
+friend_specifiers is_inline = record no_specifiers { storage = Some storage.Auto; is_inline = is_inline }
+
+-- behind the key of a class: neither a class nor an enumeration is defined there
+unfoldable pub behind_key : Reads CxxState Specifiers
+behind_key state ahead = if begins_name ahead then (path_taken >>= λ path. refused) state ahead else refused state ahead
+
+-- no type is defined among them (8.3.5 p6), of so many enumerations before
+unfoldable pub friend_typed : ℕ → Specifiers → Reads CxxState Specifiers
+friend_typed enumerations specifiers state ahead =
+    if not (has_type specifiers) then behind_key state (behind ahead) else (
+    if nat_eq enumerations (enumeration_count state.graph.facts) then got specifiers state ahead else
+    refused state ahead)
+
+-- 7.1.5: the specifiers of functions that are friends
+unfoldable pub specifiers_of_friend : ℕ → Bool → Reads CxxState Specifiers
+specifiers_of_friend room is_inline state ahead = (specifiers_from (asked room).kinds (inner_at room).types where_.Declaration (friend_specifiers is_inline) >>= friend_typed (enumeration_count state.graph.facts)) state ahead
+
+abbrev pub type_of_friend : Said → Declarator → CxxType
+type_of_friend said declarator = declared_type declarator.layers said.of
+
+-- 11.4 p1: no object is a friend
+unfoldable pub friend_fits : CxxType → Reads CxxState (Unit {0})
+friend_fits of state ahead = if is_function_type of then got tt state ahead else refused state ahead
+
+-- a name with qualifiers is one of a function that was declared
+abbrev pub friend_by : Bool → ℕ → Option ℕ → Lexeme → Cv → CxxType → Asks CxxState ℕ
+friend_by is_qualified scope list name cv of = if is_qualified then befriend_again scope name cv of else befriend_function scope list name of
+
+-- a function, given its declarator, in the scope of the class; its body may stand there where its name has no qualifiers (p5)
+unfoldable pub friend_function : ℕ → Said → Bool → Declarator → Ahead → Reads CxxState Declares
+friend_function scope said is_first declarator from = do
+  fits ← declared_fits said declarator
+  function ← friend_fits (type_of_friend said declarator)
+  number ← ask (friend_by declarator.is_qualified scope (own_parameters declarator.layers) (name_in declarator) declarator.cv (type_of_friend said declarator))
+  defaults ← defaults_kept (own_parameters declarator.layers) (Some number)
+  to ← looked
+  declared_behind declarator.is_qualified is_first (type_of_friend said declarator) (own_parameters declarator.layers) defaults (declarator_tree false (name_in declarator) (type_of_friend said declarator) number declarator.parts from to)
+
+unfoldable pub friend_at : ℕ → Said → Bool → Reads CxxState Declares
+friend_at room said is_first = do
+  scope ← standing
+  from ← looked
+  declarator ← declarator_at (asked room).kinds (inner_at room).types naming.Qualified
+  friend_function scope said is_first declarator from
+
+unfoldable pub friends_step : ℕ → Said → Listed → Reads CxxState (Turn Listed (List CxxTree))
+friends_step room said so_far = friend_at room said so_far.is_first >>= ended_by so_far
+
+unfoldable pub friends_at : ℕ → Said → Reads CxxState (List CxxTree)
+friends_at room said state ahead = repeat (friends_step room said) give_trees (count_ahead ahead) no_declarators state ahead
+
+-- functions, from their specifiers on
+unfoldable pub friend_functions : ℕ → Bool → Ahead → Reads CxxState (List CxxTree)
+friend_functions room is_inline from = do
+  specifiers ← specifiers_of_friend room is_inline
+  between ← looked
+  declarators ← friends_at room (said_by false specifiers)
+  to ← looked
+  give (simple_tree (specifiers_tree specifiers from between) declarators from to ∷ [])
+
+abbrev pub is_class_key : TokenKind → Bool
+is_class_key kind = is_keyword keyword.CLASS kind || (is_keyword keyword.STRUCT kind || is_keyword keyword.UNION kind)
+
+-- a class; nothing is printed of it
+unfoldable pub friend_class : Bool → CxxPath → Reads CxxState (List CxxTree)
+friend_class is_union path = do
+  noted ← ask (befriend_class is_union path)
+  semicolon ← taken
+  give []
+
+-- a key and a name are all of the declaration of a class (p2), or begin the specifiers of functions
+unfoldable pub class_or_functions : ℕ → Ahead → Ahead → CxxPath → Reads CxxState (List CxxTree)
+class_or_functions room from start path state ahead =
+    if is_punct punct.SEMICOLON (kind_ahead ahead) then friend_class (is_keyword keyword.UNION (kind_ahead start)) path state ahead else
+    friend_functions room false from state start
+
+unfoldable pub keyed_friend : ℕ → Ahead → Reads CxxState (List CxxTree)
+keyed_friend room from = do
+  start ← looked
+  key ← taken
+  path ← path_taken
+  class_or_functions room from start path
+
+abbrev pub begins_keyed : Ahead → Bool
+begins_keyed ahead = is_class_key (kind_ahead ahead) && begins_name (behind ahead)
+
+unfoldable pub friends_behind : ℕ → Bool → Ahead → Reads CxxState (List CxxTree)
+friends_behind room is_inline from state ahead =
+    if not is_inline && begins_keyed ahead then keyed_friend room from state ahead else friend_functions room is_inline from state ahead
+
+abbrev pub with_members : List CxxTree → Members → Members
+with_members trees so_far = record so_far { trees = so_far.trees ++ trees }
+
+-- 7.1.2: the word `inline`, taken where it stands ahead
+abbrev pub inline_or_not : Reads CxxState Bool
+inline_or_not state ahead = got (is_keyword keyword.INLINE (kind_ahead ahead)) state (behind_inline ahead)
+
+-- from `friend` on, or from the `inline` before it
+unfoldable pub friend_step : ℕ → Members → Reads CxxState (Turn Members (List CxxTree))
+friend_step room so_far = do
+  from ← looked
+  is_inline ← inline_or_not
+  word ← taken
+  trees ← friends_behind room is_inline from
+  give (More (with_members trees so_far))
+
+abbrev pub begins_friend : Ahead → Bool
+begins_friend ahead = is_keyword keyword.FRIEND (kind_ahead (behind_inline ahead))
+
+-- a member, a label, a using-declaration, friends, `;` alone, or the end of the list
 unfoldable pub list_step_by : (Specifiers → Reads CxxState Specifiers) → ℕ → Option Lexeme → Members → Reads CxxState (Turn Members (List CxxTree))
 list_step_by nested room name so_far state ahead =
     if is_punct punct.RIGHT_BRACE (kind_ahead ahead) then got (Done so_far.trees) state (behind ahead) else (
     if is_punct punct.SEMICOLON (kind_ahead ahead) then got (More so_far) state (behind ahead) else (
     if access_word (kind_ahead ahead) then access_step so_far state ahead else (
-    if is_keyword keyword.USING (kind_ahead ahead) then using_step so_far state ahead else
-    declared_step nested room name so_far state ahead)))
+    if is_keyword keyword.USING (kind_ahead ahead) then using_step so_far state ahead else (
+    if begins_friend ahead then friend_step room so_far state ahead else
+    declared_step nested room name so_far state ahead))))
 
 abbrev pub give_members : Members → Reads CxxState (List CxxTree)
 give_members so_far = give so_far.trees

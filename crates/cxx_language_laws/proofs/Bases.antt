@@ -57,7 +57,7 @@ known_tells of place n old state ahead later =
     (by_answer old ahead _ (added_beside old state ahead (base_fact of place n) later refl (λ is. may_stand state.graph.facts (base_fact of place n) refl tt)) (λ answer more. tells_answer (tt, answer.1) more))
     (tells_refusal _ refl)
 
-told_then : {A B : Type 0} {state : CxxState} {ahead : Ahead} {first : Answer (A × CxxState)} (go : A × CxxState → Answer (B × CxxState)) → ToldBy IsLater Told state ahead first → ((x : A × CxxState) → IsLater state x.1 → ToldBy IsLater Told state ahead (go x)) → ToldBy IsLater Told state ahead (first >>= go)
+pub told_then : {A B : Type 0} {state : CxxState} {ahead : Ahead} {first : Answer (A × CxxState)} (go : A × CxxState → Answer (B × CxxState)) → ToldBy IsLater Told state ahead first → ((x : A × CxxState) → IsLater state x.1 → ToldBy IsLater Told state ahead (go x)) → ToldBy IsLater Told state ahead (first >>= go)
 told_then go (tells_answer one later) tells = tells one later
 told_then go (tells_refusal why told) tells = tells_refusal why told
 

@@ -1,6 +1,6 @@
 -- Where the reading of a class stops, and of the specifiers among which it is defined.
 use Rattle.std.proofs.Common.{◌≡◌, refl, subst}
-use Rattle.std.specs.Prelude.{ℕ, zero, suc, Bool, true, false, not, ◌&&◌, ◌||◌, if◌then◌else◌, List, [], Option, Some, None, Ok, Err, ◌++◌}
+use Rattle.std.specs.Prelude.{ℕ, zero, suc, Bool, true, false, not, ◌&&◌, ◌||◌, if◌then◌else◌, List, [], Option, Some, None, Ok, Err, ◌++◌, nat_eq, ◌∷◌}
 use Rattle.cxx_model.specs.declared.facts.Access.{Access}
 use Rattle.cxx_model.specs.declared.fault.FaultText.TheVariants as says
 use Rattle.cxx_model.specs.declared.fault.LeftOut.TheVariants as form
@@ -13,22 +13,22 @@ use Rattle.cxx_model.specs.Types.Trees.{CxxType}
 use Rattle.cxx_reading.specs.declared.specifier.SpecifierPlace.{SpecifierPlace}
 use Rattle.cxx_reading.specs.declared.specifier.SpecifierPlace.TheVariants as where_
 use Rattle.cxx_reading.specs.Declarators.{Declarator, Specifiers, declared_type, has_type, is_function_type, is_void, own_parameters, refused_in, is_refused}
-use Rattle.cxx_reading.specs.Declaring.{at_scope}
+use Rattle.cxx_reading.specs.Declaring.{at_scope, enumeration_count}
 use Rattle.cxx_declare.specs.Outside.{stand_in}
 use Rattle.cxx_reading.specs.Reads.{Ahead, Got, Reads, More, Done, ◌>>=◌, then_read, answered, ask, taken, looked, give, count_ahead, kind_ahead, place_ahead, behind, fault_at, got}
 use Rattle.cxx_reading.specs.State.{CxxState}
 use Rattle.cxx_reading.specs.Specifiers.{place_or}
-use Rattle.cxx_reading.specs.Tokens.{is_keyword, is_punct}
-use Rattle.cxx_reading.specs.Trees.{CxxTree}
+use Rattle.cxx_reading.specs.Tokens.{is_keyword, is_punct, begins_name, behind_name, is_unbuilt_part, is_whole_name, lacks_first_part, no_part_there, not_built, path_ahead, path_taken, refused}
+use Rattle.cxx_reading.specs.Trees.{CxxTree, CxxPath}
 use Rattle.cxx_reading.specs.Units.{Listed, Said, declared_fits, declarator_tree, give_trees, is_incomplete, is_unbounded, name_in, no_declarators, said_by, simple_tree, specifiers_tree}
 use Rattle.cxx_declare.specs.ClassDefinitions.{end_class, declare_member}
 use Rattle.cxx_language.specs.Bodies.{standing}
-use Rattle.cxx_language.specs.Classes.{BaseList, Head, Members, access_by, access_step, access_word, bases_at, bases_in, bases_or_none, begins_by, behind_bases, class_at, class_begins, class_by, class_tree, comes_later, data_member, declared_member, declared_step, give_members, head_at, is_none, key_access, list_at, list_step, list_step_by, member_at, member_declaration_at, member_declaration_by, member_step, member_specifiers, member_specifiers_by, members_by, named_member_at, nested_or_not, no_anonymous_union, no_bit_field, synonym_member, whole_member, with_class, with_member, type_of_member, Labelled, begins_pure, begins_virtual, behind_virtual, behind_words, body_unless_pure, declared_behind, is_virtual_member, labelled, pure_ahead, pure_taken, using_step, value_or_pure, with_tree, words_of_member}
+use Rattle.cxx_language.specs.Classes.{BaseList, Head, Members, access_by, access_step, access_word, bases_at, bases_in, bases_or_none, begins_by, behind_bases, class_at, class_begins, class_by, class_tree, comes_later, data_member, declared_member, declared_step, give_members, head_at, is_none, key_access, list_at, list_step, list_step_by, member_at, member_declaration_at, member_declaration_by, member_step, member_specifiers, member_specifiers_by, members_by, named_member_at, nested_or_not, no_anonymous_union, no_bit_field, synonym_member, whole_member, with_class, with_member, type_of_member, Labelled, begins_pure, begins_virtual, behind_virtual, behind_words, body_unless_pure, declared_behind, is_virtual_member, labelled, pure_ahead, pure_taken, using_step, value_or_pure, with_tree, words_of_member, begins_friend, begins_keyed, behind_inline, behind_key, class_or_functions, friend_at, friend_by, friend_class, friend_fits, friend_function, friend_functions, friend_specifiers, friend_step, friend_typed, friends_at, friends_behind, friends_step, is_class_key, keyed_friend, specifiers_of_friend, type_of_friend, with_members}
 use Rattle.cxx_language.specs.Later.{Declares, list_then_body, member_body}
 use Rattle.cxx_later.specs.Defaults.{defaults_kept, later_trees}
 use Rattle.cxx_later.specs.Passing.{body_later, passed_tree}
 use Rattle.cxx_tree.specs.Defaults.{without_offers}
-use Rattle.cxx_language_laws.specs.Stopping.{BeginsClass, Gives, NamesBases, a_class, a_class_name, a_member_declaration, begins_class, behind_member_class, further_specifiers_of, in_bases, in_class, in_class_name, in_member, in_member_declarator, in_member_specifiers, in_member_using, names_bases, next_member, next_member_declarator, some_bases, some_further_specifiers, some_member_declarators, some_members, to_member_class, to_member_declarators, Leads, a_member_value, declarator_of, to_member_value, Part}
+use Rattle.cxx_language_laws.specs.Stopping.{BeginsClass, Gives, NamesBases, a_class, a_class_name, a_member_declaration, begins_class, behind_member_class, further_specifiers_of, in_bases, in_class, in_class_name, in_member, in_member_declarator, in_member_specifiers, in_member_using, names_bases, next_member, next_member_declarator, some_bases, some_further_specifiers, some_member_declarators, some_members, to_member_class, to_member_declarators, Leads, a_member_value, declarator_of, to_member_value, Part, a_friend_class, behind_friend, has_inline, in_friend_class, in_friend_declarator, in_friend_specifiers, in_friends, next_friend_declarator, some_friend_declarators, some_friends, to_friend_declarators}
 use Rattle.cxx_language_laws.specs.Told.{EndsIn}
 use Rattle.cxx_language_laws.proofs.Asked.{kinds_tell}
 use Rattle.cxx_language_laws.proofs.Bases.{bases_stop}
@@ -37,18 +37,20 @@ use Rattle.cxx_language_laws.proofs.Brought.{member_using_stops}
 use Rattle.cxx_language_laws.proofs.ClassBegins.{begin_tells, end_tells, member_tells, unnamed_tells, member_is_there}
 use Rattle.cxx_language_laws.proofs.ClassNames.{class_name_stops}
 use Rattle.cxx_language_laws.proofs.Declared.{bare_synonym_tells, ended_by_tells, give_trees_tells, nothing_tells, one_tree_tells}
-use Rattle.cxx_language_laws.proofs.DeclaratorsStop.{declarator_stops, specifiers_stop, fits_stops}
+use Rattle.cxx_language_laws.proofs.DeclaratorsStop.{declarator_stops, specifiers_stop, fits_stops, member_stops}
 use Rattle.cxx_language_laws.proofs.Later.{IsLater, later_is_kept, later_is_quiet, later_same, turned}
 use Rattle.cxx_language_laws.proofs.Opened.{InSpace, round_grown, stands_in}
-use Rattle.cxx_language_laws.proofs.Reached.{IsBehind, IsElsewhere, behind_by_later, behind_later, elsewhere_later, later_is_told, returns_later}
-use Rattle.cxx_language_laws.proofs.Stopping.{ChainedOf, Inside, InsideBy, Stops, calm, calm_from, elsewhere_is_held, innermost_stops, later_here, leads_here, leads_in, quiet_told, repeat_stops, then_calm, told_within, which_in, whole_calm, whole_part, whole_stops, within_part, then_asked}
-use Rattle.cxx_language_laws.proofs.Tells.{Quietly, Tells, ToldBy, ToldIn, behind_stands, ends_later, give_in, if_in, looked_in, next_in, past_stands, punct_in, quiet_in, same_in, taken_in, tells_answer, tells_read, tells_refusal, tells_stop, then_from, then_in, tokens_in, unit_is_told, nothing, saying, whole_stands}
+use Rattle.cxx_language_laws.proofs.Reached.{IsBehind, IsElsewhere, behind_by_later, behind_later, elsewhere_later, later_is_told, returns_later, Told}
+use Rattle.cxx_language_laws.proofs.Stopping.{ChainedOf, Inside, InsideBy, Stops, calm, calm_from, elsewhere_is_held, innermost_stops, later_here, leads_here, leads_in, quiet_told, repeat_stops, then_calm, told_within, which_in, whole_calm, whole_part, whole_stops, within_part, then_asked, leads_elsewhere}
+use Rattle.cxx_language_laws.proofs.Tells.{Quietly, Tells, ToldBy, ToldIn, behind_stands, ends_later, give_in, if_in, looked_in, next_in, past_stands, punct_in, quiet_in, same_in, taken_in, tells_answer, tells_read, tells_refusal, tells_stop, then_from, then_in, tokens_in, unit_is_told, nothing, saying, whole_stands, ask_from, name_stands, past_in, path_told}
 use Rattle.cxx_language_laws.proofs.TellsPassing.{passed_tells}
 use Rattle.cxx_language_laws.proofs.TellsSpecifiers.{further_tell}
 use Rattle.cxx_language.specs.Values.{constant_part, has_value, member_value}
 use Rattle.cxx_model.specs.declared.fault.FaultText.{FaultText}
 use Rattle.cxx_reading.specs.declared.specifier.Naming.TheVariants as naming
 use Rattle.cxx_language_laws.proofs.Objects.{HasNumber, value_tells}
+use Rattle.cxx_model.specs.declared.types.Cv.{Cv}
+use Rattle.cxx_language_laws.proofs.FriendsTell.{again_befriended, class_befriended, function_befriended}
 
 -- ---- one member (9.2)
 
@@ -221,6 +223,140 @@ member_declaration_stops room nested label state ahead =
     then_calm (leads_in (to_member_declarators is) later stands (members_by_stop room (labelled label (begins_virtual ahead)) one.value one.state one.rest)) (λ declarators state rest.
     then_in later_is_quiet (looked_in later_is_quiet state rest) (λ to. give_in later_is_quiet (simple_tree (specifiers_tree one.value ahead one.rest) declarators ahead to)))))
 
+-- ---- friends (11.4)
+
+-- a class
+friend_class_tells : (is_union : Bool) (state : CxxState) (ahead : Ahead) → begins_name ahead ≡ true → is_whole_name ahead ≡ true → ToldIn IsLater Told state ahead (friend_class is_union (path_ahead ahead) state (behind_name ahead))
+unfolding friend_class
+friend_class_tells is_union state ahead begins whole =
+    then_in later_is_told (ask_from (behind_name ahead) (name_stands ahead) (class_befriended is_union state ahead begins whole)) (λ noted state rest.
+    then_in later_is_told (taken_in later_is_told state rest) (λ semicolon. give_in later_is_told []))
+
+friend_class_stops : (is_union : Bool) (state : CxxState) (ahead : Ahead) → begins_name ahead ≡ true → is_whole_name ahead ≡ true → Stops (a_friend_class is_union) state ahead (friend_class is_union (path_ahead ahead) state (behind_name ahead))
+friend_class_stops is_union state ahead begins whole = innermost_stops tt (λ fault is. is) (friend_class_tells is_union state ahead begins whole)
+
+-- a function, where the reader may stand elsewhere behind its declarator
+friend_by_tells : (is_qualified : Bool) (s state : CxxState) (ahead : Ahead) (list : Option ℕ) (name : Lexeme) (cv : Cv) (of : CxxType) → IsElsewhere s state → ToldBy IsLater Quietly s ahead (friend_by is_qualified s.here.scope list name cv of state)
+friend_by_tells true s state ahead list name cv of elsewhere = again_befriended s state ahead name cv of elsewhere
+friend_by_tells false s state ahead list name cv of elsewhere = function_befriended s state ahead list name of elsewhere
+
+-- behind it the reader stands where it did
+asked_back : {B : Type 0} {part : Part} {state : CxxState} {ahead : Ahead} {r : Answer (ℕ × CxxState)} (rest : Ahead) (go : ℕ → Reads CxxState B) → ToldBy IsLater Quietly state ahead r → EndsIn ahead.tokens rest.tokens → ((x : ℕ) → Tells IsLater Quietly (go x)) → Inside part state ahead (then_read (answered r rest) go)
+asked_back rest go (tells_answer one later) stands tells = calm_from later stands (tells one.0 one.1 rest)
+asked_back {part = part} {state = state} {ahead = ahead} rest go (tells_refusal why quiet) stands tells = tells_stop why (quiet_told within_part part state ahead why quiet)
+
+friend_fits_stops : {B : Type 0} {part : Part} {state : CxxState} {ahead : Ahead} (of : CxxType) (go : Unit {0} → Reads CxxState B) (after : CxxState) (rest : Ahead) → Inside part state ahead (go tt after rest) → Inside part state ahead (then_read (friend_fits of after rest) go)
+unfolding friend_fits
+friend_fits_stops {part = part} {state = state} {ahead = ahead} of go after rest stops = by (is_function_type of)
+  where
+    by : (b : Bool) → Inside part state ahead (then_read (if b then got tt after rest else refused after rest) go)
+    by true = stops
+    by false = tells_stop _ tt
+
+-- behind what is declared
+abbrev behind_friend_of : Bool → Bool → Option ℕ → Lexeme → CxxType → List CxxTree → Ahead → ℕ → Reads CxxState Declares
+behind_friend_of is_qualified is_first list name of parts from number = defaults_kept list (Some number) >>= λ defaults. looked >>= λ to. declared_behind is_qualified is_first of list defaults (declarator_tree false name of number parts from to)
+
+behind_friend_tells : (is_qualified is_first : Bool) (list : Option ℕ) (name : Lexeme) (of : CxxType) (parts : List CxxTree) (from : Ahead) (number : ℕ) → Tells IsLater Quietly (behind_friend_of is_qualified is_first list name of parts from number)
+behind_friend_tells is_qualified is_first list name of parts from number state ahead =
+    then_in later_is_quiet (kept_tells list (Some number) state ahead) (λ defaults state ahead.
+    then_in later_is_quiet (looked_in later_is_quiet state ahead) (λ to. behind_tells is_qualified is_first of list defaults (declarator_tree false name of number parts from to)))
+
+friend_function_stops : (room : ℕ) (said : Said) (so_far : Listed) (state : CxxState) (ahead : Ahead) (declarator : Declarator) (after : CxxState) (rest : Ahead) → IsElsewhere state after → EndsIn ahead.tokens rest.tokens → Inside (some_friend_declarators room said so_far) state ahead (friend_function state.here.scope said so_far.is_first declarator ahead after rest)
+unfolding friend_function
+friend_function_stops room said so_far state ahead declarator after rest elsewhere stands =
+    let name = name_in declarator in
+    let of = type_of_friend said declarator in
+    let list = own_parameters declarator.layers in
+    let question = friend_by declarator.is_qualified state.here.scope list name declarator.cv of in
+    let behind = behind_friend_of declarator.is_qualified so_far.is_first list name of declarator.parts ahead in
+    fits_stops said declarator (λ fits. friend_fits of >>= λ function. ask question >>= behind) after rest (
+    friend_fits_stops of (λ function. ask question >>= behind) after rest (
+    asked_back rest behind (friend_by_tells declarator.is_qualified state after ahead list name declarator.cv of elsewhere) stands (
+    behind_friend_tells declarator.is_qualified so_far.is_first list name of declarator.parts ahead)))
+
+friend_at_stops : (room : ℕ) (said : Said) (so_far : Listed) (state : CxxState) (ahead : Ahead) → Inside (some_friend_declarators room said so_far) state ahead (friend_at room said so_far.is_first state ahead)
+unfolding friend_at
+friend_at_stops room said so_far state ahead = by (leads_elsewhere in_friend_declarator (member_stops room state ahead))
+  where
+    by : {r : Answer (Got CxxState Declarator)} → InsideBy IsElsewhere (some_friend_declarators room said so_far) state ahead r → Inside (some_friend_declarators room said so_far) state ahead (then_read r (λ declarator. friend_function state.here.scope said so_far.is_first declarator ahead))
+    by (tells_read one elsewhere stands) = friend_function_stops room said so_far state ahead one.value one.state one.rest elsewhere stands
+    by (tells_stop why told) = tells_stop why told
+
+friends_step_stops : (room : ℕ) (said : Said) (so_far : Listed) (state : CxxState) (ahead : Ahead) → Inside (some_friend_declarators room said so_far) state ahead (friends_step room said so_far state ahead)
+unfolding friends_step
+friends_step_stops room said so_far state ahead = then_calm (friend_at_stops room said so_far state ahead) (ended_by_tells so_far)
+
+friends_at_stop : (room : ℕ) (said : Said) (state : CxxState) (ahead : Ahead) → Stops (some_friend_declarators room said no_declarators) state ahead (friends_at room said state ahead)
+unfolding friends_at
+friends_at_stop room said state ahead = repeat_stops (some_friend_declarators room said) (friends_step room said) give_trees (λ so_far s ahead fault is. is) (λ so_far more s t ahead rest is. next_friend_declarator is) (friends_step_stops room said) give_trees_tells (count_ahead ahead) no_declarators state ahead
+
+-- their specifiers
+behind_key_tells : Tells IsLater Quietly behind_key
+unfolding behind_key
+behind_key_tells state ahead = if_in (begins_name ahead) (then_in later_is_quiet (path_told later_is_quiet state ahead) (λ path state ahead. quiet_in later_is_quiet refl)) (quiet_in later_is_quiet refl)
+
+friend_typed_tells : (enumerations : ℕ) (specifiers : Specifiers) → Tells IsLater Quietly (friend_typed enumerations specifiers)
+unfolding friend_typed
+friend_typed_tells enumerations specifiers state ahead =
+    if_in (not (has_type specifiers)) (past_in later_is_quiet (behind_key_tells state (behind ahead))) (
+    if_in (nat_eq enumerations (enumeration_count state.graph.facts)) (same_in later_is_quiet specifiers state ahead) (quiet_in later_is_quiet refl))
+
+friend_specifiers_stop : (room : ℕ) (is_inline : Bool) (from : Ahead) (state : CxxState) (ahead : Ahead) → Inside (some_friends room is_inline from) state ahead (specifiers_of_friend room is_inline state ahead)
+unfolding specifiers_of_friend
+friend_specifiers_stop room is_inline from state ahead = then_calm (leads_here in_friend_specifiers (further_stop room where_.Declaration (friend_specifiers is_inline) state ahead)) (friend_typed_tells (enumeration_count state.graph.facts))
+
+friend_functions_stop : (room : ℕ) (is_inline : Bool) (from : Ahead) (state : CxxState) (ahead : Ahead) → Inside (some_friends room is_inline from) state ahead (friend_functions room is_inline from state ahead)
+unfolding friend_functions
+friend_functions_stop room is_inline from state ahead =
+    then_from _ (friend_specifiers_stop room is_inline from state ahead) (λ one is later stands.
+    then_calm (leads_in (to_friend_declarators is) later stands (friends_at_stop room (said_by false one.value) one.state one.rest)) (λ declarators state rest.
+    then_in later_is_quiet (looked_in later_is_quiet state rest) (λ to. give_in later_is_quiet (simple_tree (specifiers_tree one.value from one.rest) declarators from to ∷ []))))
+
+-- what follows a name behind tokens that were taken
+path_inside : {B : Type 0} {part : Part} {state : CxxState} {ahead : Ahead} (go : CxxPath → Reads CxxState B) (from : Ahead) → (is_whole_name from ≡ true → Inside part state ahead (go (path_ahead from) state (behind_name from))) → Inside part state ahead (then_read (path_taken state from) go)
+unfolding path_taken no_part_there
+path_inside {part = part} {state = state} {ahead = ahead} go from stops = by (is_whole_name from) stops
+  where
+    none : (b : Bool) → Inside part state ahead (then_read (if b then not_built state (behind_name from) else refused state (behind_name from)) go)
+    none true = tells_stop _ tt
+    none false = tells_stop _ tt
+
+    by : (b : Bool) → (b ≡ true → Inside part state ahead (go (path_ahead from) state (behind_name from))) → Inside part state ahead (then_read (if b then got (path_ahead from) state (behind_name from) else no_part_there (lacks_first_part from) state (behind_name from)) go)
+    by true stops = stops refl
+    by false stops = none (is_unbuilt_part (lacks_first_part from) (kind_ahead (behind_name from)))
+
+-- behind a key of a class and a name
+keyed_name : (key name : Bool) → (key && name) ≡ true → name ≡ true
+keyed_name true name e = e
+keyed_name false name e = absurd cc
+
+keyed_friend_stops : (room : ℕ) (from : Ahead) (state : CxxState) (ahead : Ahead) → begins_keyed ahead ≡ true → Inside (some_friends room false from) state ahead (keyed_friend room from state ahead)
+unfolding keyed_friend class_or_functions
+keyed_friend_stops room from state ahead keyed =
+    path_inside (class_or_functions room from ahead) (behind ahead) (λ whole.
+    which_in (is_punct punct.SEMICOLON (kind_ahead (behind_name (behind ahead))))
+    (λ ends. leads_in (in_friend_class (record { keyed = keyed; whole = whole; ends = ends })) (later_here state) (behind_stands ahead) (friend_class_stops (is_keyword keyword.UNION (kind_ahead ahead)) state (behind ahead) (keyed_name (is_class_key (kind_ahead ahead)) (begins_name (behind ahead)) keyed) whole))
+    (λ none. friend_functions_stop room false from state ahead))
+
+friends_behind_stop : (room : ℕ) (is_inline : Bool) (from : Ahead) (state : CxxState) (ahead : Ahead) → Stops (some_friends room is_inline from) state ahead (friends_behind room is_inline from state ahead)
+unfolding friends_behind
+friends_behind_stop room true from state ahead = whole_stops (λ fault is. is) (friend_functions_stop room true from state ahead)
+friends_behind_stop room false from state ahead = whole_stops (λ fault is. is) (which_in (begins_keyed ahead) (λ keyed. keyed_friend_stops room from state ahead keyed) (λ none. friend_functions_stop room false from state ahead))
+
+-- the tokens behind `inline`, where it stands, and `friend`
+inline_stands : (ahead : Ahead) → EndsIn ahead.tokens (behind_inline ahead).tokens
+inline_stands ahead = by (has_inline ahead)
+  where
+    by : (b : Bool) → EndsIn ahead.tokens (if b then behind ahead else ahead).tokens
+    by true = behind_stands ahead
+    by false = whole_stands ahead.tokens
+
+friend_step_stops : (room : ℕ) (name : Option Lexeme) (so_far : Members) (state : CxxState) (ahead : Ahead) → begins_friend ahead ≡ true → Inside (some_members room name so_far) state ahead (friend_step room so_far state ahead)
+unfolding friend_step
+friend_step_stops room name so_far state ahead begins =
+    then_calm (leads_in (in_friends begins) (later_here state) (past_stands ahead (behind_inline ahead) (inline_stands ahead)) (friends_behind_stop room (has_inline ahead) ahead state (behind_friend ahead))) (λ trees. give_in later_is_quiet (More (with_members trees so_far)))
+
 -- ---- the list of members
 
 access_tells : (so_far : Members) → Tells IsLater Quietly (access_step so_far)
@@ -237,8 +373,9 @@ list_step_stops room nested name so_far state ahead =
     if_in (is_punct punct.SEMICOLON (kind_ahead ahead)) (calm (next_in later_is_quiet (More so_far) state ahead)) (
     if_in (access_word (kind_ahead ahead)) (calm (access_tells so_far state ahead)) (
     which_in (is_keyword keyword.USING (kind_ahead ahead)) (λ is. then_calm (leads_here (in_member_using is) (member_using_stops so_far.access state ahead is)) (λ brought. give_in later_is_quiet (More so_far))) (λ none.
+    which_in (begins_friend ahead) (λ is. friend_step_stops room name so_far state ahead is) (λ other.
     if_in (comes_later name (behind_words ahead)) (calm (quiet_in later_is_quiet refl))
-    (then_calm (leads_here in_member (member_declaration_stops room nested so_far.access state ahead)) (λ tree. give_in later_is_quiet (More (with_member tree so_far))))))))
+    (then_calm (leads_here in_member (member_declaration_stops room nested so_far.access state ahead)) (λ tree. give_in later_is_quiet (More (with_member tree so_far)))))))))
 
 members_stop : (room : ℕ) → ClassStops room → (head : Head) (bases : List CxxTree) (state : CxxState) (ahead : Ahead) → Stops (some_members room head.name (behind_bases bases head.access)) state ahead (list_at (suc room) head bases state ahead)
 unfolding list_at class_at

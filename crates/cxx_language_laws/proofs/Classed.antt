@@ -33,7 +33,7 @@ use Rattle.cxx_language_laws.proofs.Tells.{Quietly, ToldBy, tells_answer, tells_
 -- ---- the innermost scope that is that of no class and of no parameters (3.3.1)
 
 -- what stands round a scope is one that there is
-up_below : (all : List CxxFact) → AreHeld (scope_facts all) → (room : ℕ) (scope one : ScopeId) → scope.0 < length (scope_facts all) → Contains (up all room scope) one → one.0 < length (scope_facts all)
+pub up_below : (all : List CxxFact) → AreHeld (scope_facts all) → (room : ℕ) (scope one : ScopeId) → scope.0 < length (scope_facts all) → Contains (up all room scope) one → one.0 < length (scope_facts all)
 unfolding up
 up_below all held zero scope one within m = elim (first_or_later scope [] one m) [
   | inl here ↦ subst (λ (x : ScopeId). x.0 < length (scope_facts all)) here within

@@ -27,7 +27,7 @@ use Rattle.cxx_reading.specs.Trees.{CxxPath}
 use Rattle.cxx_reading.proofs.Keeps.{IsKept}
 use Rattle.cxx_tree.specs.Defaults.{with_given, without_offers}
 use Rattle.cxx_declare.specs.Outside.{again_among, again_fact, again_here, again_what, declare_again, declared_again, is_again, members_here}
-use Rattle.cxx_declare.specs.Functions.{declare_function, declare_with, free_if, function_by, given_as, is_linked_here, linked_if, given_before, not_given, not_given_by, offered_by, with_all_given}
+use Rattle.cxx_declare.specs.Functions.{declare_function, declare_unread, declare_unread_with, declare_with, free_if, function_by, given_as, is_linked_here, linked_if, given_before, not_given, not_given_by, offered_by, with_all_given}
 use Rattle.cxx_language_laws.specs.Best.{IsBestCall, AreBestCalls}
 use Rattle.cxx_language_laws.specs.Told.{IsGrown}
 use Rattle.cxx_language_laws.proofs.Scopes.{InScopes, IsFirstThere, IsSound, MayStand, may_stand, scopes_beside_it, scopes_put, scopes_same}
@@ -395,6 +395,16 @@ declare_with_tells linked name of first offers state ahead there =
 pub function_answer_tells : (list : Option ℕ) (name : Lexeme) (of : CxxType) → Answers IsLater Quietly (declare_function list name of)
 unfolding declare_function
 function_answer_tells list name of state ahead = declare_with_tells (is_linked_here state) name of (first_member_function state (home_here state) (spelled name.spelling) of) (offered_by list state.offered) state ahead (member_function_there state (home_here state) (spelled name.spelling) of)
+
+-- 11.4: a function that is a friend, the default arguments of which are read later
+unread_with_tells : (name : Lexeme) (of : CxxType) (first : Option FactId) (offers : List CxxOffered) (state : CxxState) (ahead : Ahead) → IsFirstThere (length state.graph.facts) first → ToldBy IsLater Quietly state ahead (declare_unread_with name of first offers state)
+unread_with_tells name of first offers state ahead there =
+    let fact = function_by state name of first offers in
+    by_then state ahead _ (free_if_quiet false state fact name.spelling) (λ is_free. by_then state ahead _ (not_given_quiet state name.place name.spelling first offers) (λ is_fresh. added_tells fact state ahead refl (may_be_added state fact refl there)))
+
+pub unread_tells : (list : Option ℕ) (name : Lexeme) (of : CxxType) → Answers IsLater Quietly (declare_unread list name of)
+unfolding declare_unread
+unread_tells list name of state ahead = unread_with_tells name of (first_member_function state (home_here state) (spelled name.spelling) of) (offered_by list state.offered) state ahead (member_function_there state (home_here state) (spelled name.spelling) of)
 
 -- ---- functions of a class that are declared again (9.3)
 

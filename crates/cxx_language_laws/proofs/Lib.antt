@@ -42,6 +42,7 @@ pub mod Objects
 pub mod Spaces
 pub mod Brought
 pub mod Opened
+pub mod FriendsTell
 pub mod TellsBlocks
 pub mod TellsBodies
 pub mod Stopping

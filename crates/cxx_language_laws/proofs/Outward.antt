@@ -105,12 +105,12 @@ when_some : (t : Bool) (x y : Sighting) → when t x ≡ Some y → (t ≡ true)
 when_some true x y e = (refl, same_Some x y e)
 when_some false x y e = absurd cc
 
-if_some : (t : Bool) (o : Option Sighting) (y : Sighting) → cond t o None ≡ Some y → o ≡ Some y
+pub if_some : (t : Bool) (o : Option Sighting) (y : Sighting) → cond t o None ≡ Some y → o ≡ Some y
 if_some true o y e = e
 if_some false o y e = absurd cc
 
 -- what is wanted of a declaration is one
-one_wanted : (graph : CxxGraph) (wanted : Wanted) (number : ℕ) (fact : CxxFact) (one : Sighting) → AreSound graph.facts → slice_get graph.facts number ≡ Some fact → wanted_one graph wanted (sighting_of graph.facts number fact) ≡ Some one → IsOne graph wanted one
+pub one_wanted : (graph : CxxGraph) (wanted : Wanted) (number : ℕ) (fact : CxxFact) (one : Sighting) → AreSound graph.facts → slice_get graph.facts number ≡ Some fact → wanted_one graph wanted (sighting_of graph.facts number fact) ≡ Some one → IsOne graph wanted one
 one_wanted graph wanted number fact one sound at e =
     let kept = when_some (is_wanted graph wanted (sighting_of graph.facts number fact).what) (sighting_of graph.facts number fact) one e in
     let there = meant_there graph.facts number fact at fact.what refl (sound number fact at) in

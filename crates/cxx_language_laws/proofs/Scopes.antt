@@ -92,7 +92,7 @@ abbrev pub IsFirstThere : ℕ → Option FactId → Type 0
 IsFirstThere count None = Unit {0}
 IsFirstThere count (Some first) = first.0 < count
 
--- nothing is declared but what is read so far: no template and no friend
+-- nothing is declared but what is read so far, and no template
 abbrev pub IsSound : List CxxFact → Declares → Type 0
 IsSound all (facts.scope parent kind) = Unit {0}
 IsSound all (facts.injected class) = Unit {0}
@@ -107,6 +107,7 @@ IsSound all (facts.namespace inner) = inner.0 < length (scope_facts all)
 IsSound all (facts.directive nominated) = Unit {0}
 IsSound all (facts.using target) = target.0 < length all
 IsSound all (facts.ancestor derived base position access) = Unit {0}
+IsSound all (facts.friend class target) = Unit {0}
 IsSound all _ = ⊥
 
 abbrev pub AreSound : List CxxFact → Type 0
@@ -139,7 +140,7 @@ sound_still xs x (facts.injected _) is = tt
 sound_still xs x (facts.complete _) is = tt
 sound_still xs x (facts.passed _) is = absurd is
 sound_still xs x (facts.ancestor _ _ _ _) is = tt
-sound_still xs x (facts.friend _ _) is = absurd is
+sound_still xs x (facts.friend _ _) is = tt
 
 sound_more : (xs : List CxxFact) (last : CxxFact) → AreSound xs → IsSound xs last.what → AreSound (xs ++ last ∷ [])
 sound_more xs last are is n fact e = elim (last_or_before xs last n fact e) [

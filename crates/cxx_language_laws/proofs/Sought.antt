@@ -19,7 +19,7 @@ use Rattle.cxx_model.specs.Facts.Declarations as facts
 use Rattle.cxx_model.specs.Facts.Declarations.{CxxFact, CxxGraph, CxxName, Declares, spelled}
 use Rattle.cxx_model.specs.Facts.Entities.{entity_by, first_or, of_fact}
 use Rattle.cxx_meaning.specs.Conversions.Standard.{CxxOperand}
-use Rattle.cxx_meaning.specs.Lookups.Associated.{adl, associated, befriended, functions_among, space_id, standing_in_each, target_by, target_of}
+use Rattle.cxx_meaning.specs.Lookups.Associated.{adl, associated, befriended, functions_among, is_target, space_id, standing_in_each, target_by, target_named, target_of}
 use Rattle.cxx_meaning.specs.Lookups.Directives.{Shown, shows}
 use Rattle.cxx_meaning.specs.Lookups.Gathered.{gathered, holds_scope, spread, with_facts, with_scope, with_scopes}
 use Rattle.cxx_meaning.specs.Lookups.Member.{class_of_scope, member}
@@ -27,7 +27,7 @@ use Rattle.cxx_meaning.specs.Lookups.Ordinary.{Here, IsFirst, Nowhere, Outside, 
 use Rattle.cxx_meaning.specs.Lookups.Pending.{Asked}
 use Rattle.cxx_meaning.specs.Lookups.Qualified.{leads_to, searched, sightings_of, standing_in}
 use Rattle.cxx_meaning.specs.Lookups.Scopes.{chain, unit_scope}
-use Rattle.cxx_meaning.specs.Lookups.Sightings.{Sighting, both_functions, entities, found_of, odd_pair, looked_up, standing, unhidden}
+use Rattle.cxx_meaning.specs.Lookups.Sightings.{Sighting, both_functions, entities, found_of, odd_pair, looked_up, sighting_of, standing, unhidden}
 use Rattle.cxx_meaning.specs.Lookups.Wanted.{Wanted, any_name, is_function, names_space, namespaces_only}
 use Rattle.cxx_meaning.proofs.Nearest.{first_is_found}
 use Rattle.cxx_reading.specs.declared.region.Region.{Region}
@@ -38,7 +38,7 @@ use Rattle.cxx_reading.specs.State.{CxxState}
 use Rattle.cxx_answers.specs.Answers.{associated_functions, found_in_sets, fresh_among, types_of_operands}
 use Rattle.cxx_language_laws.specs.Best.{IsClear}
 use Rattle.cxx_language_laws.specs.Told.{AreApart, IsNotAround, IsNotInside, IsNotThere, nothing_in}
-use Rattle.cxx_language_laws.proofs.Outward.{ClassAnswers, HasNone, HasNothing, IsLooked, IsOne, IsSo, IsTwo, OfNumber, Outward, ScopeAnswers, all_of, beside_all, clash_looked, class_apart, class_looked, class_with, class_without, each_seen, entities_so, filtered_all, gathered_all, in_class, looked_so, member_looked, none_left, none_outward, outward, scope_answers, scope_apart, scope_finds, set_looked, some_outward, two_looked}
+use Rattle.cxx_language_laws.proofs.Outward.{ClassAnswers, HasNone, HasNothing, IsLooked, IsOne, IsSo, IsTwo, OfNumber, Outward, ScopeAnswers, all_of, beside_all, clash_looked, class_apart, class_looked, class_with, class_without, each_seen, entities_so, filtered_all, gathered_all, if_some, in_class, looked_so, member_looked, none_left, none_outward, one_wanted, outward, scope_answers, scope_apart, scope_finds, set_looked, some_outward, two_looked}
 use Rattle.cxx_language_laws.proofs.Shown.{reached_none, right_none, unit_in}
 use Rattle.cxx_language_laws.proofs.Scopes.{AreHeld, AreSound, InScopes, IsFirstThere, IsSound, UnitIsSpace, none_is_past}
 
@@ -317,7 +317,7 @@ entity_there all number n (facts.injected _) below is e = absurd cc
 entity_there all number n (facts.complete _) below is e = first_there (length all) number n None below tt e
 entity_there all number n (facts.passed _) below is e = absurd is
 entity_there all number n (facts.ancestor _ _ _ _) below is e = first_there (length all) number n None below tt e
-entity_there all number n (facts.friend _ _) below is e = absurd is
+entity_there all number n (facts.friend _ _) below is e = first_there (length all) number n None below tt e
 
 pub one_there : (graph : CxxGraph) (wanted : Wanted) → AreSound graph.facts → (one : Sighting) → IsOne graph wanted one → IsSo (IsThere graph) one
 one_there graph wanted sound one is = record {
@@ -437,17 +437,18 @@ unfolding standing_in_each
 each_standing graph cut name [] sound = tt
 each_standing graph cut name (space ∷ others) sound = beside_all (IsOne graph any_name) (standing graph cut any_name name (space_id space)) (standing_in_each graph cut name others) (each_seen graph cut any_name name (space_id space) sound) (each_standing graph cut name others sound)
 
--- nothing is a friend
-no_friend : (graph : CxxGraph) (name : CxxName) (classes : List ℕ) (number : ℕ) (fact : CxxFact) (one : Sighting) → IsSound graph.facts fact.what → befriended graph name classes number fact ≡ Some one → ⊥
-unfolding befriended
-no_friend graph name classes number fact one is e = none_is (sym (ap (target_by graph name) (by fact.what is)) ∙ e)
-  where
-    none_is : None ≡ Some one → ⊥
-    none_is e = cc
+-- 11.4: what a friend declaration declares is a declaration that there is
+target_one : (graph : CxxGraph) (name : CxxName) (target : FactId) (found_there : Option CxxFact) (one : Sighting) → AreSound graph.facts → slice_get graph.facts target.0 ≡ found_there → target_named graph name target found_there ≡ Some one → IsOne graph any_name one
+target_one graph name target None one sound at e = absurd cc
+target_one graph name target (Some fact) one sound at e = one_wanted graph any_name target.0 fact one sound at (if_some (is_target graph name fact) (Some (sighting_of graph.facts target.0 fact)) one e)
 
-    by : (what : Declares) → IsSound graph.facts what → target_of classes what ≡ None
-    by (facts.friend _ _) is = absurd is
-    by _ is = refl
+befriended_one : (graph : CxxGraph) (name : CxxName) (classes : List ℕ) (number : ℕ) (fact : CxxFact) (one : Sighting) → AreSound graph.facts → befriended graph name classes number fact ≡ Some one → IsOne graph any_name one
+unfolding befriended
+befriended_one graph name classes number fact one sound e = by (target_of classes fact.what) e
+  where
+    by : (o : Option FactId) → target_by graph name o ≡ Some one → IsOne graph any_name one
+    by None e = absurd cc
+    by (Some target) e = target_one graph name target (slice_get graph.facts target.0) one sound refl e
 
 each_by_types : (graph : CxxGraph) (sets : Associated) (name : CxxName) → AreSound graph.facts → AllByRecursion (OfNumber (IsThere graph)) (adl graph sets name (length graph.facts))
 unfolding adl
@@ -457,7 +458,7 @@ each_by_types graph sets name sound = entities_so (IsThere graph) (functions_amo
     seen = standing_in_each graph (length graph.facts) name sets.spaces ++ gathered (befriended graph name sets.classes) 0 graph.facts
 
     friends : AllByRecursion (IsOne graph any_name) (gathered (befriended graph name sets.classes) 0 graph.facts)
-    friends = gathered_all (IsOne graph any_name) (befriended graph name sets.classes) graph.facts 0 (λ i fact one there is. absurd (no_friend graph name sets.classes (0 + i) fact one (sound i fact there) is))
+    friends = gathered_all (IsOne graph any_name) (befriended graph name sets.classes) graph.facts 0 (λ i fact one there is. befriended_one graph name sets.classes (0 + i) fact one sound is)
 
     each_of : (all : List Sighting) → AllByRecursion (IsOne graph any_name) all → AllByRecursion (IsSo (IsThere graph)) all
     each_of [] are = tt

@@ -22,12 +22,12 @@ use Rattle.cxx_reading.specs.Spaces.{open_space, open_unnamed}
 use Rattle.cxx_reading.specs.Specifiers.{specifiers_at, specifiers_from}
 use Rattle.cxx_reading.specs.State.{CxxState}
 use Rattle.cxx_reading.specs.Syntax.{declarator_at}
-use Rattle.cxx_reading.specs.Tokens.{is_keyword, is_name, is_punct, token_in}
+use Rattle.cxx_reading.specs.Tokens.{behind_name, is_keyword, is_name, is_punct, is_whole_name, path_ahead, token_in}
 use Rattle.cxx_reading.specs.Trees.{CxxTree, in_turn}
 use Rattle.cxx_reading.specs.Units.{Said, Listed, give_trees, inside_step, linkages_passed, name_in, no_declarators, said_by}
 use Rattle.cxx_language.specs.Blocks.{condition_part, declared_condition_at, local_declaration_at, local_step}
 use Rattle.cxx_language.specs.Bodies.{result_of}
-use Rattle.cxx_language.specs.Classes.{BaseList, Head as ClassHead, Labelled, Members, base_list, bases_in, bases_or_none, begins_virtual, behind_bases, behind_virtual, class_at, class_begins, class_name, class_whole, declaration_specifiers, give_members, head_at, labelled, list_step, member_declaration_at, member_specifiers, member_step, type_of_member, words_of_member}
+use Rattle.cxx_language.specs.Classes.{BaseList, Head as ClassHead, Labelled, Members, base_list, bases_in, bases_or_none, begins_friend, begins_keyed, begins_virtual, behind_bases, behind_inline, behind_virtual, class_at, class_begins, class_name, class_whole, declaration_specifiers, friend_class, friend_specifiers, friends_behind, friends_step, give_members, head_at, labelled, list_step, member_declaration_at, member_specifiers, member_step, specifiers_of_friend, type_of_member, words_of_member}
 use Rattle.cxx_language.specs.Later.{defaults_read, each_read, later_read, waiting_read}
 use Rattle.cxx_later.specs.Defaults.{LaterDefault, defaults_in, defaults_kept}
 use Rattle.cxx_later.specs.Passing.{forward_to}
@@ -132,6 +132,12 @@ pub data Part : Type 0 where
   some_members : ℕ → Option Lexeme → Members → Part
   -- 7.3.3: in their list, a using-declaration with an access (11), from the word `using` on
   a_member_using : Access → Part
+  -- 11.4: in their list, friends, from behind the word `friend` on, and whether `inline` stands before that
+  some_friends : ℕ → Bool → Ahead → Part
+  -- a class that is a friend, behind its key, and whether that is the one of a union
+  a_friend_class : Bool → Part
+  -- functions that are friends
+  some_friend_declarators : ℕ → Said → Listed → Part
   -- 9.2: a declaration of members with an access (11)
   a_member_declaration : ℕ → Access → Part
   some_member_declarators : ℕ → Labelled → Said → Listed → Part
@@ -143,7 +149,7 @@ pub data Part : Type 0 where
   a_default : ℕ → Part
   -- 9.2: the bodies of the functions in a class, where it has ended
   some_bodies : List Waiting → List CxxTree → Part
-  -- 7.1: the specifiers behind a class that is defined among them
+  -- 7.1: the specifiers behind a class that is defined among them, or behind `friend`
   some_further_specifiers : ℕ → SpecifierPlace → Specifiers → Part
   -- 8.3: a declarator, with bounds and parameters
   a_declarator : ℕ → Naming → Part
@@ -172,7 +178,7 @@ pub data Part : Type 0 where
   a_declared_condition : ℕ → Part
   a_condition_initializer : ℕ → Lexeme → CxxType → ℕ → Part
 
--- it has no part in turn: expressions stand in it, or names of namespaces, classes, bases or members that are brought
+-- it has no part in turn: expressions stand in it, or names of namespaces, classes, bases, friends or members that are brought
 abbrev pub IsInnermost : Part → Type 0
 IsInnermost (an_alias from name) = Unit {0}
 IsInnermost a_using = Unit {0}
@@ -180,6 +186,7 @@ IsInnermost (some_specifiers room place) = Unit {0}
 IsInnermost a_class_name = Unit {0}
 IsInnermost (some_bases of) = Unit {0}
 IsInnermost (a_member_using access) = Unit {0}
+IsInnermost (a_friend_class is_union) = Unit {0}
 IsInnermost (some_further_specifiers room place so_far) = Unit {0}
 IsInnermost (a_declarator room naming) = Unit {0}
 IsInnermost (a_member_value room name of number) = Unit {0}
@@ -210,6 +217,9 @@ IsStopped a_class_name state ahead fault = class_name state ahead ≡ Err (Fault
 IsStopped (some_bases of) state ahead fault = base_list of state ahead ≡ Err (Faulty fault)
 IsStopped (some_members room name so_far) state ahead fault = IsStoppedIn (list_step room name) give_members so_far state ahead fault
 IsStopped (a_member_using access) state ahead fault = member_using_at access state ahead ≡ Err (Faulty fault)
+IsStopped (some_friends room is_inline from) state ahead fault = friends_behind room is_inline from state ahead ≡ Err (Faulty fault)
+IsStopped (a_friend_class is_union) state ahead fault = friend_class is_union (path_ahead ahead) state (behind_name ahead) ≡ Err (Faulty fault)
+IsStopped (some_friend_declarators room said so_far) state ahead fault = IsStoppedIn (friends_step room said) give_trees so_far state ahead fault
 IsStopped (a_member_declaration room access) state ahead fault = member_declaration_at room access state ahead ≡ Err (Faulty fault)
 IsStopped (some_member_declarators room access said so_far) state ahead fault = IsStoppedIn (member_step room access said) give_trees so_far state ahead fault
 IsStopped (some_defaults defaults) state ahead fault = defaults_read defaults state ahead ≡ Err (Faulty fault)
@@ -276,6 +286,20 @@ pub data BeginsClass (state : CxxState) (ahead : Ahead) (head : ClassHead) (base
 pub data NamesBases (state : CxxState) (ahead : Ahead) : BaseList → CxxState → Ahead → Type 0 where
   names_bases : (head : ClassHead) (colon : Ahead) (home : CxxState) (begun : ℕ × CxxState) → Gives head_at state ahead head home colon → class_begins head home ≡ Ok begun → is_punct punct.COLON (kind_ahead colon) ≡ true
       → NamesBases state ahead (bases_in begun.0 head.access begun.1.here.scope) (at_scope home.here.scope begun.1) (behind colon)
+
+-- 7.1.2: whether the word `inline` stands ahead
+abbrev pub has_inline : Ahead → Bool
+has_inline ahead = is_keyword keyword.INLINE (kind_ahead ahead)
+
+-- 11.4: what stands behind the word `friend`, before which `inline` may stand
+abbrev pub behind_friend : Ahead → Ahead
+behind_friend ahead = behind (behind_inline ahead)
+
+-- 11.4 p2: the key of a class, a whole name and `;` stand ahead
+pub record NamesFriend (ahead : Ahead) : Type 0 where
+  pub keyed : begins_keyed ahead ≡ true
+  pub whole : is_whole_name (behind ahead) ≡ true
+  pub ends : is_punct punct.SEMICOLON (kind_ahead (behind_name (behind ahead))) ≡ true
 
 -- 3.1, 3.2, 3.3.1: The name of a declarator is declared, with a number, before its initializer, which is ahead.
 pub data Initializes (said : Said) (declarator : Declarator) (before : CxxState) : ℕ → CxxState → Type 0 where
@@ -378,6 +402,15 @@ pub data Leads : Part → CxxState → Ahead → Part → CxxState → Ahead →
   next_member : {room : ℕ} {name : Option Lexeme} {so_far more : Members} {state after : CxxState} {ahead rest : Ahead} → Gives (list_step room name so_far) state ahead (More more) after rest → Leads (some_members room name so_far) state ahead (some_members room name more) after rest
   -- 7.3.3: a using-declaration
   in_member_using : {room : ℕ} {name : Option Lexeme} {so_far : Members} {state : CxxState} {ahead : Ahead} → is_keyword keyword.USING (kind_ahead ahead) ≡ true → Leads (some_members room name so_far) state ahead (a_member_using so_far.access) state ahead
+  -- 11.4: friends: a class, or functions, each of which is a declarator behind specifiers
+  in_friends : {room : ℕ} {name : Option Lexeme} {so_far : Members} {state : CxxState} {ahead : Ahead} → begins_friend ahead ≡ true → Leads (some_members room name so_far) state ahead (some_friends room (has_inline ahead) ahead) state (behind_friend ahead)
+  in_friend_class : {room : ℕ} {from : Ahead} {state : CxxState} {ahead : Ahead} → NamesFriend ahead → Leads (some_friends room false from) state ahead (a_friend_class (is_keyword keyword.UNION (kind_ahead ahead))) state (behind ahead)
+  in_friend_specifiers : {room : ℕ} {is_inline : Bool} {from : Ahead} {state : CxxState} {ahead : Ahead} → Leads (some_friends room is_inline from) state ahead (some_further_specifiers room where_.Declaration (friend_specifiers is_inline)) state ahead
+  to_friend_declarators : {room : ℕ} {is_inline : Bool} {from : Ahead} {specifiers : Specifiers} {state after : CxxState} {ahead rest : Ahead} → Gives (specifiers_of_friend room is_inline) state ahead specifiers after rest
+      → Leads (some_friends room is_inline from) state ahead (some_friend_declarators room (said_by false specifiers) no_declarators) after rest
+  next_friend_declarator : {room : ℕ} {said : Said} {so_far more : Listed} {state after : CxxState} {ahead rest : Ahead} → Gives (friends_step room said so_far) state ahead (More more) after rest
+      → Leads (some_friend_declarators room said so_far) state ahead (some_friend_declarators room said more) after rest
+  in_friend_declarator : {room : ℕ} {said : Said} {so_far : Listed} {state : CxxState} {ahead : Ahead} → Leads (some_friend_declarators room said so_far) state ahead (a_declarator room naming.Qualified) state ahead
   in_member : {room : ℕ} {name : Option Lexeme} {so_far : Members} {state : CxxState} {ahead : Ahead} → Leads (some_members room name so_far) state ahead (a_member_declaration room so_far.access) state ahead
   in_member_specifiers : {room : ℕ} {access : Access} {state : CxxState} {ahead : Ahead} → Leads (a_member_declaration room access) state ahead (some_specifiers room where_.Member) state (behind_virtual ahead)
   -- clause 9: a class that is defined there, and further specifiers behind it

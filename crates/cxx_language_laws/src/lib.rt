@@ -28,15 +28,15 @@ pub fn each_call_is_best()
 {}
 
 /// Where the choice of a function stops a reading (13.3), whole declarations were read before, and the reading of the next
-/// stops, part in part: in a namespace or a linkage, in specifiers, in a member of a class that is defined among them (9.2),
-/// behind its bases where it has some (clause 10), in a declarator, an initializer, a default argument that is read behind
-/// the class (8.3.6) or an expression of a statement. From there on a state is reached that keeps what was declared, in the
-/// same scope, in one of parameters that begins later, or in the namespace or the class of a member that is declared outside
-/// of it (8.3, 9.4.2), and a call stands there with the last part of its name where the fault is. Once its arguments are
-/// read, none of the functions that it may mean is viable for them, or none is the best. Where the name means functions of a
-/// class, that is so for an object and the arguments: for `*this`, or for an object that is made up (9.3.1, 13.3.1.1.1). The
-/// evidence has exactly a line for each candidate with its reason, or for each viable function with
-/// the first other one that it is not better than.
+/// stops, part in part: in a namespace or a linkage, in specifiers, in a member of a class that is defined among them (9.2) or
+/// a friend of it (11.4), behind its bases where it has some (clause 10), in a declarator, an initializer, a default argument
+/// that is read behind the class (8.3.6) or an expression of a statement. From there on a state is reached that keeps what was
+/// declared, in the same scope, in one of parameters that begins later, or in the namespace or the class of a member that is
+/// declared outside of it (8.3, 9.4.2), and a call stands there with the last part of its name where the fault is. Once its
+/// arguments are read, none of the functions that it may mean is viable for them, or none is the best. Where the name means
+/// functions of a class, that is so for an object and the arguments: for `*this`, or for an object that is made up (9.3.1,
+/// 13.3.1.1.1). The evidence has exactly a line for each candidate with its reason, or for each viable function with the first
+/// other one that it is not better than.
 /// Or a function of the class of an object was read behind `.` or `->`, its arguments stand there, and the fault is where its
 /// name is. Once they are read, none of the members with that name is viable for the object and the arguments, or none is the
 /// best: of the members of its class, or of the class that the qualifiers of the name mean there (3.4.5, 5.2.2, 13.3.1.1.1).
@@ -46,17 +46,18 @@ pub fn choice_faults_are_told()
 
 /// Where a name stops a reading as undeclared (3.4), whole declarations were read before, and the reading of the next stops,
 /// part in part: in a namespace or a linkage, in another name of a namespace, a using-declaration or a directive, in
-/// specifiers, in the bases of a class that is defined among them (clause 10), in a member of it (9.2) or a using-declaration
-/// in it (7.3.3), in a declarator, an initializer, a default argument that is read behind the class (8.3.6) or an expression of
-/// a statement. From there on a state is reached that keeps what was declared, in the same scope, in one of parameters that
-/// begins later, or in the namespace or the class of a member that is declared outside of it (8.3, 9.4.2), and a name stands
-/// there of which a part stands where the fault is: the last one, or one before `::` (3.4.3). Its lookup finds nothing: of a
-/// called name once its arguments are read, whose types find nothing either (3.4.2); behind `enum` (3.4.4) and of a base, of
-/// types alone, and in an alias or a directive, of namespaces (3.4.6). So no scope from there outward to that of the unit
-/// (3.3.5) declares the name, nor has a class whose scope is one of them a member with it, itself or by its bases (10.2), nor
-/// does a namespace that a directive of one of them reaches declare it (7.3.4); behind qualifiers, neither their namespace nor
-/// one that is searched by its directives (3.4.3.2), or, where they mean a class, that has no member with it, itself or by its
-/// bases (3.4.3.1, 10.2). The name of a base is looked up where its class is declared.
+/// specifiers, in the bases of a class that is defined among them (clause 10), in a member of it (9.2), a friend of it (11.4)
+/// or a using-declaration in it (7.3.3), in a declarator, an initializer, a default argument that is read behind the class
+/// (8.3.6) or an expression of a statement. From there on a state is reached that keeps what was declared, in the same scope,
+/// in one of parameters that begins later, or in the namespace or the class of a member that is declared outside of it (8.3,
+/// 9.4.2), and a name stands there of which a part stands where the fault is: the last one, or one before `::` (3.4.3). Its
+/// lookup finds nothing: of a called name once its arguments are read, whose types find nothing either (3.4.2); behind `enum`
+/// (3.4.4), of a base and of a class that is a friend, of types alone, and in an alias or a directive, of namespaces (3.4.6).
+/// So no scope from there outward to that of the unit (3.3.5) declares the name, nor has a class whose scope is one of them a
+/// member with it, itself or by its bases (10.2), nor does a namespace that a directive of one of them reaches declare it
+/// (7.3.4); behind qualifiers, neither their namespace nor one that is searched by its directives (3.4.3.2), or, where they
+/// mean a class, that has no member with it, itself or by its bases (3.4.3.1, 10.2). The name of a base is looked up where its
+/// class is declared.
 /// Or an object was read, `.` or `->` stands there, and behind it a name of which the last part stands where the fault is: its
 /// lookup in the class of the object, or in that of what the pointer points to, or in the class that its qualifiers mean, finds
 /// nothing (5.2.5, 10.2). A function that is found there and called is looked up again once its arguments are read: a fault with
@@ -73,9 +74,9 @@ pub fn undeclared_names_are_told()
 
 /// Where a name stops a reading as ambiguous (3.4, 7.3.4), whole declarations were read before, and the reading of the next
 /// stops, part in part, as above. From there on a state is reached in which a part of a name stands where the fault is, and
-/// its lookup finds two entities that are no overloads: in an expression, behind `enum`, of a base, in an alias, a
-/// using-declaration or a directive, before `::`, or of a called name once its arguments are read. The evidence has the places
-/// of the two, and nothing else.
+/// its lookup finds two entities that are no overloads: in an expression, behind `enum`, of a base or a class that is a
+/// friend, in an alias, a using-declaration or a directive, before `::`, or of a called name once its arguments are read. The
+/// evidence has the places of the two, and nothing else.
 /// Or its lookup finds two members of a class round the name, or of one that its qualifiers mean (3.4.3.1), that do not go
 /// together (3.4.1, 10.2): each is declared in a
 /// subobject to which bases lead, nothing in between declares the name, and the two are of different classes, or one of the

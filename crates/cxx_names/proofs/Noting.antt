@@ -33,7 +33,7 @@ use Rattle.cxx_names.specs.declared.entry.SpaceEntry.{SpaceEntry}
 use Rattle.cxx_names.specs.declared.spaces.Spaces.{Spaces}
 use Rattle.cxx_names.proofs.Holding.{held_push, scopes_are}
 use Rattle.cxx_names.specs.Holders.{held_by, held_from, kind_in}
-use Rattle.cxx_names.specs.Index.{class_by, class_scopes, of_class, same_class, under, enumeration_by, enumeration_scopes, directive_by, directives_of, opening_by, openings_from, unnamed_by, unnamed_of, KeepsSpaces, HasSpaces, same_scope, same_enumeration, filed_by, noted_by, value_by, is_outermost_kind, block_by, scopes_of, blocks_from, numbers_in, Keeps, Notes, AreSameKept, HasKept, HasNoted}
+use Rattle.cxx_names.specs.Index.{class_by, class_scopes, of_class, same_class, under, enumeration_by, enumeration_scopes, directive_by, directives_of, opening_by, openings_from, unnamed_by, unnamed_of, KeepsSpaces, HasSpaces, same_scope, same_enumeration, filed_by, noted_by, value_by, is_outermost_kind, block_by, scopes_of, blocks_from, numbers_in, Keeps, Notes, AreSameKept, HasKept, HasNoted, friend_by, friends_of}
 
 -- ---- declarations of a name
 
@@ -248,7 +248,7 @@ spaces_more old new one facts fact number n directive opening unnamed kept has =
 
 -- ---- what is filed under classes
 
-of_class_append : (class : ClassId) (xs ys : List (ClassId × ScopeId)) → of_class class (xs ++ ys) ≡ of_class class xs ++ of_class class ys
+of_class_append : {V : Type 0} (class : ClassId) (xs ys : List (ClassId × V)) → of_class class (xs ++ ys) ≡ of_class class xs ++ of_class class ys
 of_class_append class [] ys = refl
 of_class_append class (x ∷ xs) ys = by (nat_eq x.0.0 class.0) (of_class_append class xs ys)
   where
@@ -256,11 +256,11 @@ of_class_append class (x ∷ xs) ys = by (nat_eq x.0.0 class.0) (of_class_append
     by true e = ap (λ vs. x.1 ∷ vs) e
     by false e = e
 
-module _ (old new : List (ClassId × Vec ScopeId)) (entries : List (ClassId × ScopeId)) (kept : (class : ClassId) → row same_class old class ≡ of_class class entries) where
-  abbrev in_class : ℕ → List ScopeId
+module _ {V : Type 0} (old new : List (ClassId × Vec V)) (entries : List (ClassId × V)) (kept : (class : ClassId) → row same_class old class ≡ of_class class entries) where
+  abbrev in_class : ℕ → List V
   in_class m = those_in (lookup (λ k. nat_eq m k.0) old)
 
-  classes_noted : (one : Option (ClassId × ScopeId)) → IsMoreBy same_class old new one → (class : ClassId) → row same_class new class ≡ of_class class (entries ++ option_to_list one)
+  classes_noted : (one : Option (ClassId × V)) → IsMoreBy same_class old new one → (class : ClassId) → row same_class new class ≡ of_class class (entries ++ option_to_list one)
   classes_noted None more class = more class ∙ kept class ∙ ap (of_class class) (sym (append-nil entries))
   classes_noted (Some one) more class = more class ∙ same (nat_eq one.0.0 class.0) refl ∙ sym (of_class_append class entries (one ∷ []))
     where
@@ -272,16 +272,21 @@ classes_more : (facts : List Fact) (fact : Fact) → class_scopes (facts ++ fact
 classes_more [] fact = append-nil _
 classes_more (one ∷ facts) fact = ap (λ xs. option_to_list (class_by one.scope one.what) ++ xs) (classes_more facts fact) ∙ sym (append_assoc (option_to_list (class_by one.scope one.what)) (class_scopes facts) (option_to_list (class_by fact.scope fact.what)))
 
-keeps_more : (old new : Kept) (one : Entry) (facts : List Fact) (fact : Fact) (number : FactId) → number.0 ≡ length facts → one.noted ≡ noted_by fact.scope fact.what → one.block ≡ block_by (length (scopes_of facts)) (noted_by fact.scope fact.what) → one.value ≡ value_by fact.what → one.enumeration ≡ enumeration_by fact.scope fact.what → one.class ≡ class_by fact.scope fact.what → one.holder ≡ held_by (length (scopes_of facts)) (kind_in fact.what)
+friends_more : (facts : List Fact) (fact : Fact) → friends_of (facts ++ fact ∷ []) ≡ friends_of facts ++ option_to_list (friend_by fact.what)
+friends_more [] fact = append-nil _
+friends_more (one ∷ facts) fact = ap (λ xs. option_to_list (friend_by one.what) ++ xs) (friends_more facts fact) ∙ sym (append_assoc (option_to_list (friend_by one.what)) (friends_of facts) (option_to_list (friend_by fact.what)))
+
+keeps_more : (old new : Kept) (one : Entry) (facts : List Fact) (fact : Fact) (number : FactId) → number.0 ≡ length facts → one.noted ≡ noted_by fact.scope fact.what → one.block ≡ block_by (length (scopes_of facts)) (noted_by fact.scope fact.what) → one.value ≡ value_by fact.what → one.enumeration ≡ enumeration_by fact.scope fact.what → one.class ≡ class_by fact.scope fact.what → one.holder ≡ held_by (length (scopes_of facts)) (kind_in fact.what) → one.friend ≡ friend_by fact.what
     → one.space.directive ≡ directive_by fact.scope fact.what → one.space.opening ≡ opening_by number fact.what → one.space.unnamed ≡ unnamed_by fact.scope fact.name fact.what
     → Keeps old facts → HasKept old new one → Keeps new (facts ++ fact ∷ [])
-keeps_more old new one facts fact number n noted block value counts class holder directive opening unnamed kept has = record {
+keeps_more old new one facts fact number n noted block value counts class holder friend directive opening unnamed kept has = record {
   scopes = has.scopes ∙ (ap (λ xs. xs ++ option_to_list one.noted) kept.scopes ∙ (ap (λ o. scopes_of facts ++ option_to_list o) noted ∙ sym (scopes_more facts fact)));
   blocks = λ scope. blocks_noted old.blocks.rows.entries new.blocks.rows.entries (scopes_of facts) kept.blocks (noted_by fact.scope fact.what) (subst (λ o. IsMoreBy same_scope old.blocks.rows.entries new.blocks.rows.entries o) block has.blocks) scope ∙ ap (blocks_from zero scope.0) (sym (scopes_more facts fact));
   enumerations = has.enumerations ∙ (ap (λ xs. xs ++ option_to_list one.enumeration) kept.enumerations ∙ (ap (λ o. enumeration_scopes facts ++ option_to_list o) counts ∙ sym (enumerations_more facts fact)));
   values = λ number types. values_noted types old.values.rows.entries new.values.rows.entries facts (λ n. kept.values n types) (value_by fact.what) (subst (λ o. IsMoreBy same_enumeration old.values.rows.entries new.values.rows.entries o) value has.values) number ∙ sym (values_more types number.0 facts fact);
   classes = λ of. classes_noted old.classes.rows.entries new.classes.rows.entries (class_scopes facts) kept.classes (class_by fact.scope fact.what) (subst (λ o. IsMoreBy same_class old.classes.rows.entries new.classes.rows.entries o) class has.classes) of ∙ ap (of_class of) (sym (classes_more facts fact));
   holders = λ of. classes_noted old.holders.rows.entries new.holders.rows.entries (held_from zero facts) kept.holders (held_by (length (scopes_of facts)) (kind_in fact.what)) (subst (λ o. IsMoreBy same_class old.holders.rows.entries new.holders.rows.entries o) holder has.holders) of ∙ (ap (λ k. of_class of (held_from zero facts ++ option_to_list (held_by k (kind_in fact.what)))) (scopes_are facts) ∙ ap (of_class of) (sym (held_push zero facts fact)));
+  friends = λ of. classes_noted old.friends.rows.entries new.friends.rows.entries (friends_of facts) kept.friends (friend_by fact.what) (subst (λ o. IsMoreBy same_class old.friends.rows.entries new.friends.rows.entries o) friend has.friends) of ∙ ap (of_class of) (sym (friends_more facts fact));
   spaces = spaces_more old.spaces new.spaces one.space facts fact number n directive opening unnamed kept.spaces has.spaces;
 }
 
@@ -293,6 +298,7 @@ same_kept kept = record {
   values = λ number. refl;
   classes = λ class. refl;
   holders = λ class. refl;
+  friends = λ class. refl;
   spaces = record { directives = λ scope. refl; openings = λ scope. refl; unnamed = λ scope. refl };
 }
 
@@ -310,15 +316,15 @@ notes_met old words facts notes met = record {
 
 pub notes_more : (old new : Names) (one : Entry) (facts : List Fact) (fact : Fact) (name : Option Spelling) (number : FactId) (scopes : ℕ) → number.0 ≡ length facts → scopes ≡ length (scopes_of facts) → IsNumbered old.words.spellings.keys fact name
     → one.name ≡ filed_by number name → one.representative ≡ representative_by facts old.representatives.rows.entries (role_by number.0 fact.what) number name
-    → one.noted ≡ noted_by fact.scope fact.what → one.block ≡ block_by scopes (noted_by fact.scope fact.what) → one.value ≡ value_by fact.what → one.enumeration ≡ enumeration_by fact.scope fact.what → one.class ≡ class_by fact.scope fact.what → one.holder ≡ held_by scopes (kind_in fact.what)
+    → one.noted ≡ noted_by fact.scope fact.what → one.block ≡ block_by scopes (noted_by fact.scope fact.what) → one.value ≡ value_by fact.what → one.enumeration ≡ enumeration_by fact.scope fact.what → one.class ≡ class_by fact.scope fact.what → one.holder ≡ held_by scopes (kind_in fact.what) → one.friend ≡ friend_by fact.what
     → one.space.directive ≡ directive_by fact.scope fact.what → one.space.opening ≡ opening_by number fact.what → one.space.unnamed ≡ unnamed_by fact.scope fact.name fact.what
     → Notes old facts → HasNoted old new one → Notes new (facts ++ fact ∷ [])
-notes_more old new one facts fact name number scopes n m is filed chosen noted block value counts class holder directive opening unnamed notes has =
+notes_more old new one facts fact name number scopes n m is filed chosen noted block value counts class holder friend directive opening unnamed notes has =
     let has_word : HasWord old.words new.words (filed_by number name) = subst (λ o. HasWord old.words new.words o) filed has.words in
     record {
       sound = sound_more old.words new.words fact.scope (word_declared_by fact) name number notes.sound is has_word;
       words = λ scope word types. ap (λ ks. numbered_row new.words.rows.rows.entries scope (number_among ks word)) has_word.spellings ∙ names_noted types old.words.spellings.keys old.words.rows.rows.entries new.words.rows.rows.entries facts fact name number n is (λ s w. notes.words s w types) has_word.rows scope word;
       below = below_noted facts fact number n old.words.rows.rows.entries new.words.rows.rows.entries notes.below name has_word.rows;
       representatives = sampled_noted facts fact number n old.words.rows.rows.entries new.words.rows.rows.entries notes.below old.representatives.rows.entries new.representatives.rows.entries notes.representatives name has_word.rows (subst (λ o. IsMoreBy same_spelling old.representatives.rows.entries new.representatives.rows.entries o) chosen has.representatives);
-      kept = keeps_more old.kept new.kept one facts fact number n noted (block ∙ ap (λ k. block_by k (noted_by fact.scope fact.what)) m) value counts class (holder ∙ ap (λ k. held_by k (kind_in fact.what)) m) directive opening unnamed notes.kept has.kept;
+      kept = keeps_more old.kept new.kept one facts fact number n noted (block ∙ ap (λ k. block_by k (noted_by fact.scope fact.what)) m) value counts class (holder ∙ ap (λ k. held_by k (kind_in fact.what)) m) friend directive opening unnamed notes.kept has.kept;
     }

@@ -14,7 +14,6 @@ plain_entity : (what : Entity) → IsPlainEntity what → IsPlainFact what
 plain_entity (entity.Template _ _ _ _ _) is = is
 plain_entity (entity.Parameter _ _ _) is = is
 plain_entity (entity.Passed _) is = is
-plain_entity (entity.Friend _ _) is = is
 plain_entity _ is = tt
 
 -- a new declaration that is tested for conflicts is one of them

@@ -73,6 +73,11 @@ abbrev pub class_by : ScopeId → Entity → Option (ClassId × ScopeId)
 class_by scope (entity.Class class is_union) = Some (class, scope)
 class_by scope _ = None
 
+-- 11.4: the declaration of what a class befriends, under the class
+abbrev pub friend_by : Entity → Option (ClassId × FactId)
+friend_by (entity.Friend class target) = Some (class, target)
+friend_by _ = None
+
 -- 7.3.4: the namespace that a directive nominates, under the scope of the directive
 abbrev pub directive_by : ScopeId → Entity → Option (ScopeId × ScopeId)
 directive_by scope (entity.Directive nominated) = Some (scope, nominated)
@@ -126,8 +131,13 @@ abbrev pub class_scopes : List Fact → List (ClassId × ScopeId)
 class_scopes [] = []
 class_scopes (fact ∷ facts) = option_to_list (class_by fact.scope fact.what) ++ class_scopes facts
 
+-- 11.4: the declarations of what classes befriend, under them
+abbrev pub friends_of : List Fact → List (ClassId × FactId)
+friends_of [] = []
+friends_of (fact ∷ facts) = option_to_list (friend_by fact.what) ++ friends_of facts
+
 -- those of one class, in order
-abbrev pub of_class : ClassId → List (ClassId × ScopeId) → List ScopeId
+abbrev pub of_class : {V : Type 0} → ClassId → List (ClassId × V) → List V
 of_class class [] = []
 of_class class (one ∷ others) = if same_class one.0 class then one.1 ∷ of_class class others else of_class class others
 
@@ -157,6 +167,7 @@ pub record Keeps (kept : Kept) (facts : List Fact) : Type 0 where
   pub values : (number : EnumId) (types : List CxxType) → row same_enumeration kept.values.rows.entries number ≡ values_in number.0 (facts_at types facts)
   pub classes : (class : ClassId) → row same_class kept.classes.rows.entries class ≡ of_class class (class_scopes facts)
   pub holders : (class : ClassId) → row same_class kept.holders.rows.entries class ≡ of_class class (held_from zero facts)
+  pub friends : (class : ClassId) → row same_class kept.friends.rows.entries class ≡ of_class class (friends_of facts)
   pub spaces : KeepsSpaces kept.spaces facts
 
 -- Exactly these facts were noted.
@@ -186,6 +197,7 @@ pub record HasKept (old new : Kept) (one : Entry) : Type 0 where
   pub values : IsMoreBy same_enumeration old.values.rows.entries new.values.rows.entries one.value
   pub classes : IsMoreBy same_class old.classes.rows.entries new.classes.rows.entries one.class
   pub holders : IsMoreBy same_class old.holders.rows.entries new.holders.rows.entries one.holder
+  pub friends : IsMoreBy same_class old.friends.rows.entries new.friends.rows.entries one.friend
   pub spaces : HasSpaces old.spaces new.spaces one.space
 
 -- The same is kept.
@@ -196,6 +208,7 @@ pub record AreSameKept (old new : Kept) : Type 0 where
   pub values : AreSame same_enumeration old.values.rows.entries new.values.rows.entries
   pub classes : AreSame same_class old.classes.rows.entries new.classes.rows.entries
   pub holders : AreSame same_class old.holders.rows.entries new.holders.rows.entries
+  pub friends : AreSame same_class old.friends.rows.entries new.friends.rows.entries
   pub spaces : AreSameSpaces old.spaces new.spaces
 
 pub record HasNoted (old new : Names) (one : Entry) : Type 0 where

@@ -4,7 +4,7 @@ ghost use Rattle.cxx_model.specs.Facts.Conflicts.{declares_name as declares_a_na
 ghost use Rattle.cxx_model.specs.Facts.Declarations.{declares_at};
 ghost use Rattle.cxx_model.specs.Types.Trees.{CxxType};
 ghost use Rattle.cxx_names.specs.Holders.{held_by, kind_in};
-ghost use Rattle.cxx_names.specs.Index.{block_by, class_by, directive_by, enumeration_by, filed_by, is_outermost_kind, noted_by, opening_by, unnamed_by, unnamed_space, value_by};
+ghost use Rattle.cxx_names.specs.Index.{block_by, class_by, directive_by, enumeration_by, filed_by, friend_by, is_outermost_kind, noted_by, opening_by, unnamed_by, unnamed_space, value_by};
 ghost use Rattle.cxx_names.specs.Words.{word_declared_by};
 
 use cxx_model::{ClassId, Entity, EnumId, Fact, FactId, Name, ScopeId, ScopeKind};
@@ -50,11 +50,13 @@ pub(crate) struct Entry {
     pub(crate) class: Option<(ClassId, ScopeId)>,
     // 9.2: the scope of a class, under the class.
     pub(crate) holder: Option<(ClassId, ScopeId)>,
+    // 11.4: the declaration of what a class befriends, under the class.
+    pub(crate) friend: Option<(ClassId, FactId)>,
     pub(crate) space: SpaceEntry,
 }
 
 /// Whether a fact declares a name.
-pub(crate) fn declares_name(what: Entity) -> bool
+pub fn declares_name(what: Entity) -> bool
     ensures { (types : List CxxType) → result ≡ declares_a_name (declares_at types what) }
 {
     match what {
@@ -132,6 +134,15 @@ fn class_in(scope: ScopeId, what: Entity) -> Option<(ClassId, ScopeId)>
 {
     match what {
         Entity::Class { class, .. } => Some((class, scope)),
+        _ => None,
+    }
+}
+
+fn friend_in(what: Entity) -> Option<(ClassId, FactId)>
+    ensures { result ≡ friend_by what }
+{
+    match what {
+        Entity::Friend { class, target } => Some((class, target)),
         _ => None,
     }
 }
@@ -233,6 +244,7 @@ impl Entry {
         ensures enumeration { result.enumeration ≡ enumeration_by fact.now.scope fact.now.what }
         ensures class { result.class ≡ class_by fact.now.scope fact.now.what }
         ensures holder { result.holder ≡ held_by scopes (kind_in fact.now.what) }
+        ensures friend { result.friend ≡ friend_by fact.now.what }
         ensures directive { result.space.directive ≡ directive_by fact.now.scope fact.now.what }
         ensures opening { result.space.opening ≡ opening_by number fact.now.what }
         ensures unnamed { result.space.unnamed ≡ unnamed_by fact.now.scope fact.now.name fact.now.what }
@@ -247,6 +259,7 @@ impl Entry {
             enumeration: enumeration_in(fact.scope, fact.what),
             class: class_in(fact.scope, fact.what),
             holder: holder_in(ScopeId(scopes), kind_of(fact.what)),
+            friend: friend_in(fact.what),
             space: SpaceEntry::of(fact, number),
         }
     }

@@ -15,7 +15,7 @@ ghost use Rattle.cxx_reading.specs.Declaring.{enumeration_in, first_function as 
 ghost use Rattle.cxx_reading.specs.Seen.{fact_numbers, kind_of_found as kind_of_all, declared_in as declared_by, numbered_at, parent_of};
 ghost use Rattle.cxx_reading.specs.Paths.{first_space as first_space_by};
 ghost use Rattle.cxx_names.specs.Holders.{held_from};
-ghost use Rattle.cxx_names.specs.Index.{Notes, numbers_in, of_class};
+ghost use Rattle.cxx_names.specs.Index.{Notes, friends_of, numbers_in, of_class};
 ghost use Rattle.cxx_reading.specs.Classes.{first_class as first_class_by};
 ghost use Rattle.cxx_names.specs.Looked.{class_named_at, enumeration_number, looked_up, scope_number};
 ghost use Rattle.cxx_names.specs.Words.{IsMetAs};
@@ -125,6 +125,15 @@ impl Names {
     {
         let _ = graph;
         self.kept.scopes_of_class(class)
+    }
+
+    /// The declarations of what a class befriends, in order (11.4).
+    pub fn friends_of_class(&self, graph: &Graph, class: ClassId) -> &[FactId]
+        requires { Notes self.now graph.now.facts }
+        ensures { result.now ≡ of_class class (friends_of graph.now.facts) }
+    {
+        let _ = graph;
+        self.kept.friends_of_class(class)
     }
 
     /// The scope that holds a scope (3.3); that of the unit holds itself.

@@ -11,7 +11,7 @@ use crate::entry::{Entry, Noted, is_outermost};
 use crate::filed::Filed;
 use crate::spaces::Spaces;
 use cxx_hash::Key;
-use cxx_model::{ClassId, EnumId, OutOfMemory, ScopeId, ScopeKind};
+use cxx_model::{ClassId, EnumId, FactId, OutOfMemory, ScopeId, ScopeKind};
 use std::alloc::Global;
 
 /// The scopes and the enumerations of a unit.
@@ -28,6 +28,8 @@ pub(crate) struct Kept {
     pub(crate) classes: Filed<ClassId, ScopeId>,
     // The scopes of each class (9.2).
     pub(crate) holders: Filed<ClassId, ScopeId>,
+    // What each class befriends, by its declarations (11.4).
+    pub(crate) friends: Filed<ClassId, FactId>,
     pub(crate) spaces: Spaces,
 }
 
@@ -60,6 +62,7 @@ impl Kept {
             values: Filed::new(alloc, key),
             classes: Filed::new(alloc, key),
             holders: Filed::new(alloc, key),
+            friends: Filed::new(alloc, key),
             spaces: Spaces::new(alloc, key),
         }
     }
@@ -99,6 +102,13 @@ impl Kept {
         ensures { result.now ≡ row same_class self.now.holders.rows.entries class }
     {
         self.holders.row(&class)
+    }
+
+    /// The declarations of what a class befriends, in order (11.4).
+    pub(crate) fn friends_of_class(&self, class: ClassId) -> &[FactId]
+        ensures { result.now ≡ row same_class self.now.friends.rows.entries class }
+    {
+        self.friends.row(&class)
     }
 
     /// Whether a scope is that of the parameters of a function (3.3.2).
@@ -233,7 +243,16 @@ impl Kept {
             pop_some(&mut self.scopes, one.noted);
             return Err(fault);
         }
+        if let Err(fault) = self.friends.add(one.friend) {
+            self.holders.take_back(one.holder);
+            self.classes.take_back(one.class);
+            self.values.take_back(one.value);
+            self.blocks.take_back(one.block);
+            pop_some(&mut self.scopes, one.noted);
+            return Err(fault);
+        }
         if let Err(fault) = self.spaces.note(one.space) {
+            self.friends.take_back(one.friend);
             self.holders.take_back(one.holder);
             self.classes.take_back(one.class);
             self.values.take_back(one.value);
@@ -243,6 +262,7 @@ impl Kept {
         }
         if let Err(fault) = push_some(&mut self.enumerations, one.enumeration) {
             self.spaces.take_back(one.space);
+            self.friends.take_back(one.friend);
             self.holders.take_back(one.holder);
             self.classes.take_back(one.class);
             self.values.take_back(one.value);
@@ -262,6 +282,7 @@ impl Kept {
         self.values.take_back(one.value);
         self.classes.take_back(one.class);
         self.holders.take_back(one.holder);
+        self.friends.take_back(one.friend);
         self.spaces.take_back(one.space);
         pop_some(&mut self.enumerations, one.enumeration);
     }

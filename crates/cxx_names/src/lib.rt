@@ -19,6 +19,7 @@ mod spaces;
 mod words;
 
 pub use alike::{agree, is_incomplete};
+pub use entry::declares_name;
 pub use found::{
     first_class, first_enumeration, first_function, first_object, first_space, kind_of_found,
 };

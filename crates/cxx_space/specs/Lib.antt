@@ -4,3 +4,4 @@ pub mod Views
 pub mod Bases
 pub mod Classes
 pub mod Behind
+pub mod Friends

@@ -213,6 +213,13 @@ fn behind_inline<'a>(cursor: &Cursor<'a>) -> Cursor<'a>
     ahead
 }
 
+// Friends, also behind `inline` (11.4, 7.1.2).
+fn begins_friend(cursor: &Cursor<'_>) -> bool
+    ensures { result ≡ definition.begins_friend cursor.now }
+{
+    is_keyword(keyword::FRIEND, behind_inline(cursor).kind())
+}
+
 // The same behind `virtual`.
 fn behind_words<'a>(cursor: &Cursor<'a>) -> Cursor<'a>
     ensures { result ≡ definition.behind_words cursor.now }
@@ -323,7 +330,7 @@ impl<D: Defines> Space<'_, D> {
         Ok(Turn::More(with_member(so_far, number)?))
     }
 
-    // A member, a label, a using-declaration, `;` alone, or the end of the list.
+    // A member, a label, a using-declaration, friends, `;` alone, or the end of the list.
     #[cycle(nested)]
     #[tactic(auto, using(cxx_cursor::proofs::Kept::later_refl), unfolding(cxx_language::specs::Classes::list_step_by))]
     fn list_step(
@@ -349,6 +356,9 @@ impl<D: Defines> Space<'_, D> {
         }
         if is_keyword(keyword::USING, cursor.kind()) {
             return using_step(self.declares, state, cursor, so_far);
+        }
+        if begins_friend(cursor) {
+            return self.friend_step(state, cursor, so_far);
         }
         self.declared_step(state, cursor, head, so_far)
     }

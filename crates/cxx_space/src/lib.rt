@@ -7,6 +7,7 @@ mod bodies;
 mod classes;
 mod declarations;
 mod declarators;
+mod friends;
 mod functions;
 mod later;
 mod members;

@@ -270,9 +270,9 @@ fn body_unless_pure(
     member_body(state, cursor, is_first, of, declarator, list)
 }
 
-// What stands behind the declarator of a member, given its tree.
+/// What stands behind the declarator of a member or a friend, given its tree.
 #[tactic(auto, using(cxx_cursor::proofs::Kept::trees_kept, cxx_cursor::proofs::Kept::trees_later, cxx_expr::proofs::Kept::tree_kept, cxx_expr::proofs::Kept::tree_later, cxx_cursor::proofs::Kept::later_refl, cxx_cursor::proofs::Kept::later_trans), unfolding(cxx_language::specs::Classes::declared_behind))]
-fn declared_behind(
+pub(crate) fn declared_behind(
     state: &mut State,
     cursor: &mut Cursor<'_>,
     is_pure: bool,

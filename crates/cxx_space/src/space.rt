@@ -5,6 +5,7 @@ ghost use Rattle.cxx_answers.specs.Defaults as defaults;
 ghost use Rattle.cxx_declare.specs.Based.{base_of};
 ghost use Rattle.cxx_declare.specs.Bases as bases;
 ghost use Rattle.cxx_declare.specs.ClassDefinitions as classes;
+ghost use Rattle.cxx_declare.specs.Friends as friends;
 ghost use Rattle.cxx_declare.specs.OutsideClasses as outside;
 ghost use Rattle.cxx_language.specs.Asked.{inner_at, phrases_at};
 ghost use Rattle.cxx_language.specs.Bodies.{function_body};
@@ -20,7 +21,7 @@ ghost use Rattle.cxx_tree.specs.Held.{meaning, tree, trees, type_of};
 use cxx_cursor::{Cursor, NameToken, Spelled};
 use cxx_declare::{BaseOf, MemberWords};
 use cxx_language::Declares;
-use cxx_model::{ClassId, FactId, Path, Place, ScopeId, Stop, TreeId, TypeId};
+use cxx_model::{ClassId, Cv, FactId, Path, Place, ScopeId, Stop, TreeId, TypeId};
 use cxx_tree::State;
 
 /// Who reads the bodies of functions and the default arguments in classes, opens namespaces and defines classes too.
@@ -90,6 +91,37 @@ pub trait Defines: Declares {
     ) -> Result<FactId, Stop>
         requires { of.0 < length (state.old).types }
         ensures { IsAsked fact_number AnyKnown state.old state.new result (classes.declare_member words (scope_of_option list) (name_at name.now) (type_of state.old of) (meaning state.old)) };
+
+    /// The class in whose scope the reader stands befriends a function whose name has no qualifiers, which is declared in the
+    /// innermost namespace round it (11.4, 7.3.1.2 p3), with the scope of the list of parameters that its declarator has. The
+    /// reader stands in the given scope then.
+    fn befriend_function(
+        &self,
+        state: &mut State,
+        scope: ScopeId,
+        list: Option<ScopeId>,
+        name: &NameToken,
+        of: TypeId,
+    ) -> Result<FactId, Stop>
+        requires { of.0 < length (state.old).types }
+        ensures { IsAsked fact_number AnyKnown state.old state.new result (friends.befriend_function scope.0 (scope_of_option list) (name_at name.now) (type_of state.old of) (meaning state.old)) };
+
+    /// The class in a given scope befriends a function whose name has qualifiers, which is declared again where the reader
+    /// stands (11.4, 8.3), with the words behind its parameters. The reader stands in the given scope then.
+    fn befriend_again(
+        &self,
+        state: &mut State,
+        scope: ScopeId,
+        name: &NameToken,
+        cv: Cv,
+        of: TypeId,
+    ) -> Result<FactId, Stop>
+        requires { of.0 < length (state.old).types }
+        ensures { IsAsked fact_number AnyKnown state.old state.new result (friends.befriend_again scope.0 (name_at name.now) cv (type_of state.old of) (meaning state.old)) };
+
+    /// The class in whose scope the reader stands befriends the class that a name behind its key means (11.4).
+    fn befriend_class(&self, state: &mut State, is_union: bool, path: &Path) -> Result<(), Stop>
+        ensures { IsAsked itself AnyKnown state.old state.new result (friends.befriend_class is_union (path_at path.now) (meaning state.old)) };
 
     /// The definition of a class ends, at the place of its name (9.2, 12.1).
     fn end_class(&self, state: &mut State, class: ClassId, place: Place) -> Result<(), Stop>

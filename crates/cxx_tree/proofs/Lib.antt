@@ -4,6 +4,7 @@ pub mod Calls
 pub mod Classes
 pub mod Graphs
 pub mod Giving
+pub mod Holders
 pub mod Homes
 pub mod Implied
 pub mod Keeping

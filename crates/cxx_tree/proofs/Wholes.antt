@@ -519,6 +519,12 @@ no_templates (fact ∷ facts) all = (untemplated fact.what all.0, no_templates f
 
 -- ---- the beginning
 
+fitted_empty : Fitted unit_graph []
+fitted_empty = record { numbers = record { facts = (record { name = tt; what = tt }, tt); classes = tt; patterns = tt }; names = λ i within. absurd (omega arith) }
+
+pub fitted_first : (graph : Graph) (types : List CxxType) → graph ≡ unit_graph → types ≡ [] → Fitted graph types
+fitted_first graph types is none = subst (λ (g : Graph). Fitted g types) (sym is) (subst (λ (ts : List CxxType). Fitted unit_graph ts) (sym none) fitted_empty)
+
 module _ (names : Names) (definitions : Definitions) (linkages : Linkages) (graph : Graph) (types : List CxxType) (nodes : List Node) (defined linked : List FactId) (fallbacks : List Fallback) (offers : List Offer) (calls : List Decided) (pieces : List Piece) (uses : List Binding) (tells asks : Bool)
     (g : graph ≡ unit_graph) (t : types ≡ []) (n : nodes ≡ []) (d : defined ≡ []) (l : linked ≡ []) (f : fallbacks ≡ []) (o : offers ≡ []) (c : calls ≡ []) (p : pieces ≡ []) (u : uses ≡ []) where
   abbrev begun : Graph → List CxxType → List Node → List FactId → List FactId → List Fallback → List Offer → List Decided → List Piece → List Binding → Held
@@ -535,7 +541,7 @@ module _ (names : Names) (definitions : Definitions) (linkages : Linkages) (grap
 
   sound_first : IsSound (begun unit_graph [] [] [] [] [] [] [] [] [])
   sound_first = record {
-    fitted = record { numbers = record { facts = (record { name = tt; what = tt }, tt); classes = tt; patterns = tt }; names = λ i within. absurd (omega arith) };
+    fitted = fitted_empty;
     nodes = tt;
     children = tt;
     fallbacks = tt;

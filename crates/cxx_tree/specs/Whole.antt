@@ -99,7 +99,7 @@ IsFunctionBelow count None = Unit {0}
 IsFunctionBelow count (Some function) = function.0 < count
 
 -- The names, the definitions, what is linked, the places of scopes, what sizes need, and what the members need that classes
--- declare by themselves are kept of the state. No declaration is a template, a base or a friend.
+-- declare by themselves are kept of the state. No declaration is a template.
 pub record IsWhole (names : Names) (definitions : Definitions) (linkages : Linkages) (openings : List Place) (noting : Noting) (held : Held) : Type 0 where
   pub sound : IsSound held
   pub noted : Notes names held.graph.facts

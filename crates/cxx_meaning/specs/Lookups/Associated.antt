@@ -1,5 +1,5 @@
 -- Argument-dependent lookup (3.4.2).
-use Rattle.std.specs.Prelude.{◌≡◌, ◌<◌, ◌⊎◌, ℕ, zero, suc, ◌+◌, Bool, false, nat_eq, nat_lt, if◌then◌else◌, List, [], ◌∷◌, ◌++◌, length, map, filter, find, Option, Some, None, Result, Ok, Err}
+use Rattle.std.specs.Prelude.{◌≡◌, ◌<◌, ◌⊎◌, ℕ, zero, suc, ◌+◌, Bool, false, nat_eq, nat_lt, ◌&&◌, if◌then◌else◌, List, [], ◌∷◌, ◌++◌, length, map, filter, find, Option, Some, None, Result, Ok, Err}
 use Rattle.std.specs.List.{slice_get, list_any}
 use Rattle.cxx_model.specs.declared.lookup.Associated.{Associated}
 use Rattle.cxx_model.specs.declared.types.ClassId.{ClassId}
@@ -8,12 +8,13 @@ use Rattle.cxx_model.specs.declared.types.Cv.{Cv}
 use Rattle.cxx_model.specs.declared.types.ScopeId.{ScopeId}
 use Rattle.cxx_model.specs.Facts.Declarations as facts
 use Rattle.cxx_model.specs.Facts.Declarations.{CxxFact, CxxGraph, CxxName, CxxSpecialisation, Declares}
+use Rattle.cxx_model.specs.Facts.Entities.{is_space}
 use Rattle.cxx_model.specs.Facts.Pending.{is_pending}
 use Rattle.cxx_model.specs.Types.Same.{same_type}
 use Rattle.cxx_model.specs.Types.Trees.{CxxType, fundamental, class_type, enumeration, pointer_to, reference_to, array_of, function_of, qualified, type_parameter, specialisation, nested_in, CxxTypes, no_types, type_then, CxxBound, CxxArgument, type_argument, value_argument, formula_argument, CxxArguments, no_arguments, argument_then}
 use Rattle.cxx_meaning.specs.Lookups.Gathered.{gathered}
 use Rattle.cxx_meaning.specs.Lookups.Member.{class_of_scope}
-use Rattle.cxx_meaning.specs.Lookups.Scopes.{home}
+use Rattle.cxx_meaning.specs.Lookups.Scopes.{home, kind_of}
 use Rattle.cxx_meaning.specs.Lookups.Sightings.{Sighting, entities, is_named, sighting_of, standing}
 use Rattle.cxx_meaning.specs.Lookups.Wanted.{any_name, is_function}
 
@@ -305,10 +306,14 @@ abbrev pub target_of : List ℕ → Declares → Option FactId
 target_of classes (facts.friend class target) = if list_any (nat_eq class.0) classes then Some target else None
 target_of classes _ = None
 
--- a fact, where it declares the name
+-- a declaration of the name in a namespace: a friend that is a member of another class is not found by its arguments
+abbrev pub is_target : CxxGraph → CxxName → CxxFact → Bool
+is_target graph name fact = is_space (kind_of graph.facts (record { 0 = fact.scope })) && is_named name fact
+
+-- a fact, where it is one
 abbrev pub target_named : CxxGraph → CxxName → FactId → Option CxxFact → Option Sighting
 target_named graph name target None = None
-target_named graph name target (Some fact) = if is_named name fact then Some (sighting_of graph.facts target.0 fact) else None
+target_named graph name target (Some fact) = if is_target graph name fact then Some (sighting_of graph.facts target.0 fact) else None
 
 abbrev pub target_by : CxxGraph → CxxName → Option FactId → Option Sighting
 target_by graph name None = None

@@ -1,4 +1,4 @@
-use Rattle.cxx_expr.proofs.Classed.{class_below}
+use Rattle.cxx_tree.proofs.Holders.{class_below}
 use Rattle.cxx_expr.proofs.statics.class_of_scope.Goals as goal
 
 pub returns-clause-there : goal.returns-clause-there

@@ -8,5 +8,6 @@ returns c = λ before has. record {
   values = c.take_back-2.ensures before.values.rows.entries has.values;
   classes = c.take_back-3.ensures before.classes.rows.entries has.classes;
   holders = c.take_back-4.ensures before.holders.rows.entries has.holders;
-  spaces = c.take_back-5.ensures before.spaces has.spaces;
+  friends = c.take_back-5.ensures before.friends.rows.entries has.friends;
+  spaces = c.take_back-6.ensures before.spaces has.spaces;
 }

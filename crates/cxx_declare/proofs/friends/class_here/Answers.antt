@@ -1,0 +1,5 @@
+use Rattle.cxx_tree.proofs.Holders.{class_below}
+use Rattle.cxx_declare.proofs.friends.class_here.Goals as goal
+
+pub returns-clause-there : goal.returns-clause-there
+returns-clause-there c = class_below c.args.state.now.graph c.graph-graph.result.now c.scope.result c.class_of_scope.result c.graph-graph.ensures.is c.in_range.ensures c.class_of_scope.ensures
